@@ -1,0 +1,8 @@
+pub mod Ranks
+pub mod WordBits
+pub mod Bytes
+pub mod Arrays
+pub mod Counts
+pub mod Lookups
+pub mod Selects
+pub mod Packing

@@ -1,0 +1,38 @@
+//! Ranked bit arrays over bytes: a list of bits with the counts by which its ones are ranked and found.
+//!
+//! - [`BitBuilder`] takes bits one after the other and appends their ranked bit array to a buffer.
+//! - [`BitView`] borrows the bytes of such an array and reads the list in them, with no memory taken: a
+//!   bit by its place (`get`), the ones before a place (`rank1`), and the place of a one by the number of
+//!   ones before it (`select1`).
+//!
+//! # Bytes
+//!
+//! All numbers have their most significant byte first. The array begins with the number of bits, 8 bytes.
+//! Then come the words, 8 bytes each: 64 bits from the top, with zeros behind the last bit. Then come, for
+//! each superblock of 8 words, 8 bytes: the ones in all words before it. Then come, for each word, 2
+//! bytes: the ones in the words of its superblock before it. Zero bytes fill up to a multiple of 8. So a
+//! list of bits has one array, and `specs/BitArray.antt` says which.
+//!
+//! # The contract that the layer above uses
+//!
+//! `BitsSay bytes bits` says that the bytes are the array of the bits. [`BitView::open`] answers a view
+//! exactly where some list is said, and a clause then sees the view as that list. `finish` appends bytes
+//! that say the bits that were pushed. `rank` and `IsPlaceOfOne` say what the lookups answer, of the list
+//! alone.
+//!
+//! # Cost
+//!
+//! `open` goes over the words once. `get` reads one word, and `rank1` two counts and a word. `select1`
+//! searches by halves among the superblocks, then among the words of one, then within one word.
+#![tactic(auto)]
+
+mod builder;
+mod packed;
+mod parts;
+mod search;
+#[cfg(test)]
+mod tests;
+mod view;
+
+pub use builder::BitBuilder;
+pub use view::BitView;
