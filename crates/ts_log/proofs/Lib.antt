@@ -1,0 +1,11 @@
+pub mod Vectors
+pub mod GroupsLemmas
+pub mod BitsLemmas
+pub mod ElementLemmas
+pub mod RisingLemmas
+pub mod WidthLemmas
+pub mod ArrayLemmas
+pub mod ControlLemmas
+pub mod SaysLemmas
+pub mod WordsLemmas
+pub mod StreamLemmas
