@@ -1,0 +1,16 @@
+pub mod SharedLemmas
+pub mod EntriesLemmas
+pub mod ReadLemmas
+pub mod PieceLemmas
+pub mod BlockLemmas
+pub mod OrderLemmas
+pub mod MadeLemmas
+pub mod RisingLemmas
+pub mod ReadsLemmas
+pub mod NextLemmas
+pub mod ViewLemmas
+pub mod SaysLemmas
+pub mod IterLemmas
+pub mod BuilderLemmas
+pub mod Vectors
+pub mod PushLemmas

@@ -1,0 +1,6 @@
+use Rattle.std.proofs.Common.{◌≡◌, List, ℕ, length}
+use Rattle.ts_front.specs.Pieces.{Reads}
+use Rattle.ts_front.proofs.check.is_body.Given as goal
+
+abbrev pub invariant-loop-i : goal.invariant-loop-i
+invariant-loop-i l = (texts : List (List ℕ)) × ((length texts ≡ l.i) × Reads l.starts l.body texts l.reached.block l.reached.place l.reached.last)
