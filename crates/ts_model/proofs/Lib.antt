@@ -1,0 +1,5 @@
+pub mod LayerLemmas
+pub mod ListLaws
+pub mod NetLaws
+pub mod SetLaws
+pub mod Vectors

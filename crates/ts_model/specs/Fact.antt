@@ -1,0 +1,14 @@
+-- A triple as contracts see it.
+use Rattle.std.specs.Prelude.{◌≡◌, ◌⊎◌}
+use Rattle.ts_model.specs.declared.term.TermKind.TheVariants.{Node, Predicate, Value}
+use Rattle.ts_model.specs.Spelled.{Spelled}
+
+pub record Fact : Type 0 where
+  pub subject : Spelled
+  pub predicate : Spelled
+  pub object : Spelled
+
+-- a node, a predicate, and a node or a value
+abbrev pub HasKinds : Spelled → Spelled → Spelled → Type 0
+HasKinds subject predicate object =
+    (subject.kind ≡ Node) × (predicate.kind ≡ Predicate) × ((object.kind ≡ Node) ⊎ (object.kind ≡ Value))

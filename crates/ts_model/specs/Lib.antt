@@ -1,0 +1,14 @@
+pub mod BlankLabel
+pub mod Canonical
+pub mod Characters
+pub mod Fact
+pub mod Fits
+pub mod Iri
+pub mod LayerText
+pub mod Literal
+pub mod Names
+pub mod NetChange
+pub mod Order
+pub mod Sets
+pub mod Spelled
+pub mod Totals

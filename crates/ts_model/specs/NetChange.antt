@@ -1,0 +1,46 @@
+-- The net change of a body: of the lines that name a triple, the last one decides.
+use Rattle.std.specs.Prelude.{Bool, true, false, List, map, reverse, find, Option, Some, None}
+use Rattle.std.specs.Option.{option_map}
+use Rattle.std.specs.Ordering.{eq_by_cmp}
+use Rattle.ts_model.specs.declared.signed.Sign.{Sign}
+use Rattle.ts_model.specs.declared.signed.Sign.TheVariants.{Add, Remove}
+use Rattle.ts_model.specs.declared.signed.SignedTriple.{SignedTriple}
+use Rattle.ts_model.specs.Fact.{Fact}
+use Rattle.ts_model.specs.Order.{fact_cmp}
+use Rattle.ts_model.specs.Sets.{SetOf, from_list, retain, difference, intersection}
+
+abbrev pub names : Fact → SignedTriple → Bool
+names fact line = eq_by_cmp fact_cmp fact line.triple
+
+-- the sign of the last line that names the triple
+abbrev pub last_sign : List SignedTriple → Fact → Option Sign
+last_sign body fact = option_map (λ line. line.sign) (find (names fact) (reverse body))
+
+abbrev pub is_added : Option Sign → Bool
+is_added None = false
+is_added (Some Add) = true
+is_added (Some Remove) = false
+
+abbrev pub is_removed : Option Sign → Bool
+is_removed None = false
+is_removed (Some Add) = false
+is_removed (Some Remove) = true
+
+-- the triples that a body names
+abbrev pub named : List SignedTriple → SetOf fact_cmp
+named body = from_list (map (λ line. line.triple) body)
+
+-- those whose last sign is `Add`
+abbrev pub added : List SignedTriple → SetOf fact_cmp
+added body = retain (named body) (λ fact. is_added (last_sign body fact))
+
+-- those whose last sign is `Remove`
+abbrev pub removed : List SignedTriple → SetOf fact_cmp
+removed body = retain (named body) (λ fact. is_removed (last_sign body fact))
+
+-- those to add that are not there before, and those to remove that are
+abbrev pub net_additions : SetOf fact_cmp → List SignedTriple → SetOf fact_cmp
+net_additions before body = difference (added body) before
+
+abbrev pub net_removals : SetOf fact_cmp → List SignedTriple → SetOf fact_cmp
+net_removals before body = intersection (removed body) before

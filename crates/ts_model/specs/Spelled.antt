@@ -1,0 +1,12 @@
+-- A term as contracts see it: its kind and its spelling.
+use Rattle.std.specs.Prelude.{ℕ, ◌≤◌, List, length}
+use Rattle.ts_model.specs.declared.term.TermKind.{TermKind}
+use Rattle.ts_model.specs.Canonical.{IsCanonical}
+
+pub record Spelled : Type 0 where
+  pub kind : TermKind
+  pub spelling : List ℕ
+
+-- the spelling is canonical and within the limit of 1,048,576 bytes
+abbrev pub IsTerm : Spelled → Type 0
+IsTerm term = IsCanonical term.kind term.spelling × (length term.spelling ≤ 1048576)

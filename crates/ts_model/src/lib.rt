@@ -1,0 +1,30 @@
+//! The model of a store: terms, triples, bodies, names and layer numbers, without a file.
+//!
+//! A [`Term`] is a kind and its canonical spelling; a [`Triple`] is three of them, in the order of their bytes; a
+//! [`Pattern`] takes some triples. A body is a list of [`SignedTriple`], and [`net_additions`] is what it adds to a new
+//! base, of which [`totals_of`] counts the terms. [`LabelName`], [`CursorName`] and [`layer_text`] name what a store has.
+//!
+//! In contracts a term is its kind and its spelling, a triple is three such terms, and a set of triples has one rising
+//! list of members. The layer above uses that `net_additions` gives exactly the members of the set that the body adds:
+//! of the lines that name a triple, the last one decides.
+#![tactic(auto)]
+
+pub use layer::{layer_number, layer_text};
+pub use names::{CursorName, LabelName};
+pub use net::net_additions;
+pub use pattern::Pattern;
+pub use signed::{Sign, SignedTriple};
+pub use term::{Term, TermError, TermKind};
+pub use totals::{Totals, totals_of};
+pub use triple::Triple;
+
+mod layer;
+mod names;
+mod net;
+mod pattern;
+mod signed;
+mod term;
+#[cfg(test)]
+mod tests;
+mod totals;
+mod triple;

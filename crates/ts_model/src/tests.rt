@@ -1,0 +1,84 @@
+ghost use Rattle.std.specs.Prelude.{◌≡◌, ◌≢◌, IfOk};
+
+use crate::{
+    CursorName, LabelName, Pattern, Sign, SignedTriple, Term, TermKind, Triple, layer_number,
+    layer_text, net_additions, totals_of,
+};
+use std::alloc::{AllocError, Global};
+use std::test::Fail;
+
+fn term_a(alloc: Global, kind: TermKind) -> Result<Term, AllocError>
+    requires { kind ≢ TermKind.Value }
+    ensures { IfOk result (λ term. term.kind ≡ kind) }
+{
+    Ok(Term::of_canonical(Vec::from_slice(alloc, b"<a>")?, kind))
+}
+
+fn triple_a(alloc: Global) -> Result<Triple, AllocError> {
+    Ok(Triple::of(
+        term_a(alloc, TermKind::Node)?,
+        term_a(alloc, TermKind::Predicate)?,
+        term_a(alloc, TermKind::Node)?,
+    ))
+}
+
+#[test]
+fn net_additions_and_totals_with_ample_memory(rt: HostRuntime) -> Result<(), Fail> {
+    let alloc = rt.alloc();
+    let body = vec![in alloc;
+        SignedTriple {
+            sign: Sign::Remove,
+            triple: triple_a(alloc)?
+        },
+        SignedTriple {
+            sign: Sign::Add,
+            triple: triple_a(alloc)?
+        },
+        SignedTriple {
+            sign: Sign::Add,
+            triple: triple_a(alloc)?
+        },
+    ]?;
+    let additions = net_additions(alloc, body)?;
+    assert_eq!(rt; additions.len(), 1);
+    let totals = totals_of(alloc, additions.as_slice())?;
+    assert_eq!(rt; totals.terms, 1);
+    assert_eq!(rt; totals.predicates, 1);
+    Ok(())
+}
+
+#[test]
+fn copies_and_patterns(rt: HostRuntime) -> Result<(), Fail> {
+    let alloc = rt.alloc();
+    let triple = triple_a(alloc)?;
+    let pattern = Pattern {
+        subject: Some(triple.subject().copy(alloc)?),
+        predicate: None,
+        object: None,
+    };
+    assert!(rt; pattern.fits(&triple));
+    let other = Pattern {
+        subject: None,
+        predicate: Some(term_a(alloc, TermKind::Node)?),
+        object: None,
+    };
+    assert!(rt; !other.fits(&triple), "a node is no predicate");
+    Ok(())
+}
+
+#[test]
+fn layers_as_text(rt: HostRuntime) {
+    assert_eq!(rt; layer_text(26).as_slice(), b"0000001a".as_slice());
+    assert_eq!(rt; layer_number(b"0000001a"), Some(26));
+    assert_eq!(rt; layer_number(b"0000001A"), None);
+    assert_eq!(rt; layer_number(b"1a"), None);
+}
+
+#[test]
+fn names(rt: HostRuntime) {
+    assert!(rt; LabelName::of(b"main").is_some());
+    assert!(rt; LabelName::of(b".main").is_none());
+    assert!(rt; LabelName::of(b"a/b").is_none());
+    assert!(rt; CursorName::of(b"c1").is_some());
+    assert!(rt; CursorName::of(b"C1").is_none());
+}
