@@ -1,0 +1,111 @@
+// The current folder and standard output.
+ghost use Rattle.std.specs.Prelude.{◌≡◌, false, []};
+ghost use Rattle.ts_site.specs.Folder.{no_files};
+
+use crate::count::counted;
+use crate::folder;
+use std::alloc::Global;
+use std::io::ErrorKind;
+use std::rt::Files;
+use ts_site::{Disk, Failed, FileName, ListFail, Site};
+
+/// The current folder and standard output, by way of a runtime `R`.
+#[derive(Drop)]
+pub struct RealSite<R> {
+    rt: R,
+    alloc: Global,
+    disk_faults: u64,
+    say_faults: u64,
+}
+
+impl<R: Files + Print + AllocGlobal + Clone + Drop> RealSite<R> {
+    ghost use Rattle.ts_real.specs.Real.{real_disk_faults, real_say_faults};
+
+    /// The site that the runtime gives, without faults yet.
+    pub fn new(rt: R) -> RealSite<R>
+        ensures disk { real_disk_faults result ≡ 0 }
+        ensures output { real_say_faults result ≡ 0 }
+    {
+        let alloc = rt.alloc();
+        RealSite {
+            rt,
+            alloc,
+            disk_faults: 0,
+            say_faults: 0,
+        }
+    }
+}
+
+impl<R: Files + Print + AllocGlobal + Clone + Drop> Disk for RealSite<R> {
+    ghost use Rattle.ts_real.specs.Real.{real_disk_faults, real_say_faults};
+
+    ghost tells_folder = { λ site. false };
+
+    ghost now = { λ site. no_files };
+
+    ghost disk_faults = { real_disk_faults };
+
+    ghost tells_output = { λ site. false };
+
+    ghost told = { λ site. [] };
+
+    ghost say_faults = { real_say_faults };
+
+    fn list(&mut self, alloc: Global, into: &mut Vec<FileName>) -> Result<(), ListFail> {
+        match folder::list(&self.rt, into) {
+            Ok(()) => Ok(()),
+            Err(error) => {
+                if error.kind() == ErrorKind::OutOfMemory {
+                    return Err(ListFail::Memory);
+                }
+                self.disk_faults = self.disk_faults.saturating_add(1);
+                Err(ListFail::Failed)
+            }
+        }
+    }
+
+    fn size(&mut self, name: &FileName) -> Result<Option<u64>, Failed> {
+        counted(&mut self.disk_faults, folder::size(&self.rt, name))
+    }
+
+    fn read_at(&mut self, name: &FileName, place: u64, into: &mut [u8]) -> Result<usize, Failed> {
+        counted(
+            &mut self.disk_faults,
+            folder::read_at(&self.rt, name, place, into),
+        )
+    }
+
+    fn create(&mut self, name: &FileName) -> Result<(), Failed> {
+        counted(&mut self.disk_faults, folder::create(&self.rt, name))
+    }
+
+    fn append(&mut self, name: &FileName, bytes: &[u8]) -> Result<(), Failed> {
+        counted(&mut self.disk_faults, folder::append(&self.rt, name, bytes))
+    }
+
+    fn sync(&mut self, name: &FileName) -> Result<(), Failed> {
+        counted(&mut self.disk_faults, folder::sync(&self.rt, name))
+    }
+
+    fn rename(&mut self, from: &FileName, to: &FileName) -> Result<(), Failed> {
+        counted(&mut self.disk_faults, folder::rename(&self.rt, from, to))
+    }
+
+    fn remove(&mut self, name: &FileName) -> Result<(), Failed> {
+        counted(&mut self.disk_faults, folder::remove(&self.rt, name))
+    }
+
+    fn sync_names(&mut self) -> Result<(), Failed> {
+        counted(&mut self.disk_faults, folder::sync_names(&self.rt))
+    }
+
+    fn barrier(&mut self) -> Result<(), Failed> {
+        counted(&mut self.disk_faults, folder::barrier(&self.rt, self.alloc))
+    }
+}
+
+impl<R: Files + Print + AllocGlobal + Clone + Drop> Site for RealSite<R> {
+    fn say(&mut self, piece: &[u8]) -> Result<(), Failed> {
+        counted(&mut self.say_faults, self.rt.write_all(piece))
+    }
+}

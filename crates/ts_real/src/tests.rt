@@ -1,0 +1,40 @@
+use super::*;
+use std::test::Fail;
+use ts_site::{Disk, FileName, Site, Source};
+
+#[test]
+fn a_real_file_is_written_and_read(rt: HostRuntime) -> Result<(), Fail> {
+    let alloc = rt.alloc();
+    let mut site = RealSite::new(rt.clone()?);
+    let from = FileName::of(b"real-site-test.from").ok_or("name")?;
+    let to = FileName::of(b"real-site-test.to").ok_or("name")?;
+    site.create(&from)?;
+    site.append(&from, b"abc")?;
+    site.append(&from, b"def")?;
+    site.sync(&from)?;
+    site.rename(&from, &to)?;
+    site.sync_names()?;
+    site.barrier()?;
+    assert_eq!(rt; site.size(&from)?, None);
+    assert_eq!(rt; site.size(&to)?, Some(6));
+    let mut buffer = [0; 8];
+    assert_eq!(rt; site.read_at(&to, 2, &mut buffer)?, 4);
+    assert_eq!(rt; buffer, *b"cdef\0\0\0\0");
+    let mut names = Vec::new(alloc);
+    site.list(alloc, &mut names)?;
+    assert!(rt; names.contains(&to));
+    assert!(rt; !names.contains(&from));
+    site.remove(&to)?;
+    assert_eq!(rt; site.size(&to)?, None);
+    assert!(rt; site.read_at(&to, 0, &mut buffer).is_err());
+    site.say(b"said\n")?;
+    Ok(())
+}
+
+#[test]
+fn standard_input_is_taken(rt: HostRuntime) -> Result<(), Fail> {
+    let mut source = RealSource::new(rt.clone()?);
+    let mut buffer = [0; 8];
+    assert!(rt; source.take(&mut buffer)? <= 8);
+    Ok(())
+}

@@ -1,0 +1,10 @@
+pub mod Call
+pub mod Faults
+pub mod FileName
+pub mod Folder
+pub mod MemorySite
+pub mod MemorySource
+pub mod Origin
+pub mod Output
+pub mod Source
+pub mod Telling

@@ -1,0 +1,30 @@
+//! The outside of the store: a folder of files, an output and an input.
+//!
+//! - [`FileName`] is the name of a file.
+//! - [`Disk`] is a folder that can be listed, read, written, renamed in and settled.
+//! - [`Site`] is a disk with an output.
+//! - [`Source`] gives the bytes of an input.
+//! - [`MemorySite`] and [`MemorySource`] are a site and a source in memory, which tell everything.
+//!
+//! An implementation tells what its folder, its output or its input holds, or tells nothing of it. The
+//! contracts of the calls speak of these meanings where they are told; the counts of faults hold always.
+//! A failure is answered exactly where its count rose.
+#![tactic(auto)]
+
+mod call;
+mod disk;
+mod file_name;
+mod memory_site;
+mod memory_source;
+mod site;
+mod source;
+
+pub use disk::{Disk, Failed, ListFail};
+pub use file_name::FileName;
+pub use memory_site::MemorySite;
+pub use memory_source::MemorySource;
+pub use site::Site;
+pub use source::Source;
+
+#[cfg(test)]
+mod tests;
