@@ -1,0 +1,4 @@
+pub mod FirstForm
+pub mod FrontIri
+pub mod LineRead
+pub mod TripleLine

@@ -1,0 +1,17 @@
+-- What a layer that has a plain file keeps to.
+use Rattle.std.specs.Prelude.{◌≡◌, ℕ, ◌<◌, List, [], Contains, Option, Some, None}
+use Rattle.std.specs.List.Sorted.{IsStrictlySortedBy}
+use Rattle.ts_model.specs.Fact.{Fact}
+use Rattle.ts_model.specs.Order.{fact_cmp}
+
+-- a base has no removals, and another layer's parent is less than it
+abbrev pub FitsParent : ℕ → Option ℕ → List Fact → Type 0
+FitsParent number None removals = removals ≡ []
+FitsParent number (Some parent) removals = parent < number
+
+-- additions and removals rise, and no triple stands in both
+pub record KeepsPlainRules (number : ℕ) (parent : Option ℕ) (additions removals : List Fact) : Type 0 where
+  pub additions_rise : IsStrictlySortedBy fact_cmp additions
+  pub removals_rise : IsStrictlySortedBy fact_cmp removals
+  pub apart : (fact : Fact) → Contains additions fact → Contains removals fact → ⊥
+  pub parent_fits : FitsParent number parent removals
