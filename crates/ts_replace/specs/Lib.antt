@@ -1,0 +1,4 @@
+pub mod Names
+pub mod Replaced
+pub mod ScanFail
+pub mod Scanned

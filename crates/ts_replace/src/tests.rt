@@ -1,0 +1,62 @@
+ghost use Rattle.std.specs.Prelude.{◌≡◌, [], OnOk};
+ghost use Rattle.ts_site.specs.MemorySite.{memory_calls};
+
+use super::*;
+use std::test::Fail;
+use ts_site::{FileName, MemorySite};
+
+#[test]
+fn a_file_is_changed_whole(rt: HostRuntime) -> Result<(), Fail> {
+    let alloc = rt.alloc();
+    let mut site = MemorySite::new(alloc, 20, 100)?;
+    let name = FileName::of(b"main.label").ok_or("name")?;
+    replace(&mut site, &name, b"first")?;
+    replace(&mut site, &name, b"second")?;
+    assert_eq!(rt; site.file(&name), Some(b"second".as_slice()));
+    assert_eq!(rt;
+        read_file(alloc, &mut site, &name)?.as_slice(),
+        b"second".as_slice()
+    );
+    let temporary = FileName::of(b"new.tmp").ok_or("name")?;
+    assert!(rt; site.file(&temporary).is_none());
+    assert_eq!(rt;
+        read_file(alloc, &mut site, &temporary)?.as_slice(),
+        b"".as_slice()
+    );
+    // Five calls each, and the bytes.
+    assert_eq!(rt; site.room(), (10, 89));
+    Ok(())
+}
+
+// Sets an empty file.
+fn put(site: &mut MemorySite, name: &[u8]) -> Result<(), Fail>
+    requires { memory_calls site.old ≡ [] }
+    ensures { OnOk result (memory_calls site.new ≡ []) }
+{
+    site.put_file(&FileName::of(name).ok_or("name")?, b"")?;
+    Ok(())
+}
+
+#[test]
+fn a_folder_is_scanned(rt: HostRuntime) -> Result<(), Fail> {
+    let alloc = rt.alloc();
+    let mut site = MemorySite::new(alloc, 20, 100)?;
+    put(&mut site, b"0000000a.layer")?;
+    put(&mut site, b"00000002.layer")?;
+    put(&mut site, b"00000002.rollup")?;
+    put(&mut site, b"00000000.layer")?;
+    put(&mut site, b"0000000B.layer")?;
+    put(&mut site, b"b.label")?;
+    put(&mut site, b"a.label")?;
+    put(&mut site, b"a-b.label")?;
+    put(&mut site, b".label")?;
+    put(&mut site, b"new.tmp")?;
+    let folder = Folder::scan(alloc, &mut site)?;
+    assert_eq!(rt; folder.layers.as_slice(), [2, 10].as_slice());
+    assert_eq!(rt; folder.rollups.as_slice(), [2].as_slice());
+    assert_eq!(rt; folder.labels.len(), 3);
+    assert_eq!(rt; folder.labels[0].bytes(), b"a".as_slice());
+    assert_eq!(rt; folder.labels[1].bytes(), b"a-b".as_slice());
+    assert_eq!(rt; folder.labels[2].bytes(), b"b".as_slice());
+    Ok(())
+}
