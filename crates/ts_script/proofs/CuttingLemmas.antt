@@ -1,0 +1,90 @@
+-- What several calls on a cutter make together.
+use Rattle.std.proofs.Common.{◌≡◌, ◌+◌, length, ℕ, Bool, true, false, refl, List, [], ◌∷◌, ◌++◌, sym, ◌∙◌, ap, arith, inl, inr, append_assoc, append-nil, length-append}
+use Rattle.ts_script.specs.Lines.{Given}
+use Rattle.ts_script.specs.Cutting.{lines_to_come, Keeps, GivesWhole, GivesLine, HasEnded, Takes, Took, IsNext}
+use Rattle.ts_script.specs.declared.cutter.LineCutter.{LineCutter}
+
+pub takes-keeps : (a b c : LineCutter) (bytes : List ℕ) → Takes a b bytes → Keeps b c → Takes a c bytes
+takes-keeps a b c bytes first second = record {
+  lines = λ more. second.lines more ∙ first.lines more;
+  taken = second.taken ∙ first.taken;
+  limit = second.limit ∙ first.limit;
+  number = second.number ∙ first.number;
+  passed = omega (arith, first.passed, second.passed);
+}
+
+pub takes-takes : (a b c : LineCutter) (xs ys : List ℕ) → Takes a b xs → Takes b c ys → Takes a c (xs ++ ys)
+takes-takes a b c xs ys first second = record {
+  lines = λ more. second.lines more ∙ first.lines (ys ++ more) ∙ ap (lines_to_come a) (sym (append_assoc xs ys more));
+  taken = omega (arith, first.taken, second.taken, length-append xs ys);
+  limit = second.limit ∙ first.limit;
+  number = second.number ∙ first.number;
+  passed = omega (arith, first.passed, second.passed);
+}
+
+pub takes-whole : (a b c : LineCutter) (bytes : List ℕ) (line : Given) → Takes a b bytes → GivesWhole b c line → GivesLine a c bytes line
+takes-whole a b c bytes line first second = record {
+  next = inl (λ more. sym (first.lines more) ∙ second.lines more);
+  taken = second.taken ∙ first.taken;
+  limit = second.limit ∙ first.limit;
+  number = omega (arith, first.number, second.number);
+  passed = omega (arith, first.passed, second.passed);
+}
+
+next-last : (a b c : LineCutter) (bytes : List ℕ) (line : Given) → Takes a b bytes → IsNext b c [] line → IsNext a c bytes line
+next-last a b c bytes line first (inl next) = inl (λ more. sym (first.lines more) ∙ next more)
+next-last a b c bytes line first (inr last) =
+    inr (last.0, ap (lines_to_come a) (sym (append-nil bytes)) ∙ sym (first.lines []) ∙ last.1, last.2)
+
+pub takes-last : (a b c : LineCutter) (bytes : List ℕ) (line : Given) → Takes a b bytes → GivesLine b c [] line → GivesLine a c bytes line
+takes-last a b c bytes line first second = record {
+  next = next-last a b c bytes line first second.next;
+  taken = omega (arith, first.taken, second.taken);
+  limit = second.limit ∙ first.limit;
+  number = omega (arith, first.number, second.number);
+  passed = omega (arith, first.passed, second.passed);
+}
+
+pub takes-none : (a b c : LineCutter) (bytes : List ℕ) → Takes a b bytes → HasEnded b c [] → HasEnded a c bytes
+takes-none a b c bytes first second = record {
+  ended = second.ended;
+  none = ap (lines_to_come a) (sym (append-nil bytes)) ∙ sym (first.lines []) ∙ second.none;
+  after = second.after;
+  taken = omega (arith, first.taken, second.taken);
+  limit = second.limit ∙ first.limit;
+  number = second.number ∙ first.number;
+  passed = omega (arith, first.passed, second.passed);
+}
+
+pub left-left : (whole xs ys rest end : List ℕ) → whole ≡ xs ++ rest → rest ≡ ys ++ end → whole ≡ (xs ++ ys) ++ end
+left-left whole xs ys rest end first second = first ∙ ap (λ text. xs ++ text) second ∙ sym (append_assoc xs ys end)
+
+-- where the source tells what is left, the line is the next of all that is to come
+pub next-line : (cur new : LineCutter) (bytes left rest : List ℕ) (line : Given) → GivesLine cur new bytes line → left ≡ bytes ++ rest → (new.has_ended ≡ true → rest ≡ [])
+    → lines_to_come cur left ≡ line ∷ lines_to_come new rest
+next-line cur new bytes left rest line gives whole ended = by_next gives.next
+  where
+    by_next : IsNext cur new bytes line → lines_to_come cur left ≡ line ∷ lines_to_come new rest
+    by_next (inl next) = ap (lines_to_come cur) whole ∙ next rest
+    by_next (inr last) =
+        ap (lines_to_come cur) (whole ∙ ap (λ (t : List ℕ). bytes ++ t) (ended last.0) ∙ append-nil bytes)
+        ∙ last.1 ∙ ap (λ (ls : List Given). line ∷ ls) (sym last.2 ∙ ap (lines_to_come new) (sym (ended last.0)))
+
+pub next-none : (cur new : LineCutter) (bytes left rest : List ℕ) → HasEnded cur new bytes → left ≡ bytes ++ rest → rest ≡ [] → lines_to_come cur left ≡ []
+next-none cur new bytes left rest gives whole ended =
+    ap (lines_to_come cur) (whole ∙ ap (λ (t : List ℕ). bytes ++ t) ended ∙ append-nil bytes) ∙ gives.none
+
+pub took-took : (a b c : LineCutter) (xs ys : List ℕ) → Took a b xs → c.taken ≡ b.taken + length ys → c.limit ≡ b.limit → Took a c (xs ++ ys)
+took-took a b c xs ys first taken limit = record {
+  taken = omega (arith, first.taken, taken, length-append xs ys);
+  limit = limit ∙ first.limit;
+}
+
+second_nil : (xs ys : List ℕ) → [] ≡ xs ++ ys → ys ≡ []
+second_nil [] ys e = sym e
+second_nil (x ∷ xs) ys e = absurd (cc)
+
+-- once the end was seen, nothing is left
+pub ended-left : (before after : Bool) (left bytes rest : List ℕ) → (before ≡ true → left ≡ []) → (before ≡ false → after ≡ true → rest ≡ []) → left ≡ bytes ++ rest → after ≡ true → rest ≡ []
+ended-left true after left bytes rest seen sees whole is = second_nil bytes rest (sym (seen refl) ∙ whole)
+ended-left false after left bytes rest seen sees whole is = sees refl is

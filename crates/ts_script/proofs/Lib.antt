@@ -1,0 +1,4 @@
+pub mod BodyLemmas
+pub mod BodySoFar
+pub mod CuttingLemmas
+pub mod LinesLemmas

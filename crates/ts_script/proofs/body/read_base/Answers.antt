@@ -1,0 +1,114 @@
+use Rattle.std.proofs.Common.{◌≡◌, ◌++◌, ◌+◌, true, [], IsTrue, refl, ◌∙◌, arith}
+use Rattle.ts_script.specs.Cutting.{shown, GivesLine, HasEnded, HasSeenAll, Stops}
+use Rattle.ts_script.proofs.CuttingLemmas.{next-line, next-none, left-left, took-took, ended-left}
+use Rattle.ts_script.proofs.BodySoFar.{read-one, read-all}
+use Rattle.ts_script.proofs.body.read_base.Goals as goal
+
+pub loop-line-init : goal.loop-line-init
+loop-line-init g c = record {
+  tells = refl;
+  faults = refl;
+  ended = λ told seen. seen;
+  lines = λ told seen lines is. record { done = []; rest = lines; parts = refl; to_come = is; number = omega arith; read = c.new-body.ensures c.args.cutter.now.number };
+  taken = ([], record { taken = omega arith; limit = refl }, λ told. refl);
+}
+
+pub loop-line-preserved : goal.loop-line-preserved
+loop-line-preserved g c =
+    let was = c.loop-line.invariant in
+    let cur = c.loop-line.cutter in
+    let after = c.next.follows.lender-at-none in
+    let follows = c.next.follows.holds-at-none in
+    let left = g.S.Source.left c.loop-line.input in
+    let rest = g.S.Source.left c.next.new.input in
+    let gives : GivesLine cur after follows.0 (shown c.in-Ok-Some.line) = rw (c.in-Ok-Some.is, c.in-Ok-Some.field-0-is) at follows.1 in
+    let number : c.in-Ok-Some.line.number ≡ cur.number + 1 = rw c.in-Ok-Some.field-0-is at c.in-Ok-Some.ensures.number in
+    let ended : IsTrue (g.S.Source.tells c.args.input.now) → HasSeenAll c.args.cutter.now (g.S.Source.left c.args.input.now) → after.has_ended ≡ true → rest ≡ [] =
+    λ told seen is. let tells : IsTrue (g.S.Source.tells c.loop-line.input) = rw was.tells told in
+    ended-left cur.has_ended after.has_ended left follows.0 rest (was.ended told seen) (λ opened ends. follows.3 opened ends tells) (follows.2.1 tells) is in
+    record {
+      tells = follows.2.0 ∙ was.tells;
+      faults = c.in-Ok-Some.ensures.counts ∙ was.faults;
+      ended = ended;
+      lines = λ told seen. read-one c.args.cutter.now cur after (g.S.Source.left c.args.input.now) left rest
+          c.loop-line.body.signed.items c.add.new.self.signed.items c.loop-line.body.fault c.add.new.self.fault c.in-Ok-Some.line
+          (was.lines told seen)
+          (next-line cur after follows.0 left rest (shown c.in-Ok-Some.line) gives (follows.2.1 (rw was.tells told)) (ended told seen))
+          gives.number number c.in_ok-add-in-Ok-Some.ensures;
+      taken = (
+        was.taken.0 ++ follows.0,
+        took-took c.args.cutter.now cur after was.taken.0 follows.0 was.taken.1 gives.taken gives.limit,
+        λ told. left-left (g.S.Source.left c.args.input.now) was.taken.0 follows.0 left rest (was.taken.2 told) (follows.2.1 (rw was.tells told)),
+      );
+    }
+
+pub returns-in-Ok-None-clause-base : goal.returns-in-Ok-None-clause-base
+returns-in-Ok-None-clause-base g c = λ told seen lines is.
+    let was = c.loop-line.invariant in
+    let cur = c.loop-line.cutter in
+    let after = c.next.follows.lender-at-none in
+    let follows = c.next.follows.holds-at-none in
+    let left = g.S.Source.left c.loop-line.input in
+    let rest = g.S.Source.left c.next.new.input in
+    let tells : IsTrue (g.S.Source.tells c.loop-line.input) = rw was.tells told in
+    let ends : HasEnded cur after follows.0 = rw (c.in-Ok-None.is, c.in-Ok-None.field-0-is) at follows.1 in
+    let none : rest ≡ [] = ended-left cur.has_ended after.has_ended left follows.0 rest (was.ended told seen) (λ opened ends. follows.3 opened ends tells) (follows.2.1 tells) ends.ended in
+    c.into_base.ensures c.args.cutter.now.number lines
+    (read-all c.args.cutter.now cur (g.S.Source.left c.args.input.now) left c.loop-line.body.signed.items c.loop-line.body.fault lines (was.lines told seen)
+    (next-none cur after follows.0 left rest ends (follows.2.1 tells) none) is)
+
+pub returns-in-Ok-None-clause-all : goal.returns-in-Ok-None-clause-all
+returns-in-Ok-None-clause-all g c = λ told seen.
+    let was = c.loop-line.invariant in
+    let cur = c.loop-line.cutter in
+    let after = c.next.follows.lender-at-none in
+    let follows = c.next.follows.holds-at-none in
+    let tells : IsTrue (g.S.Source.tells c.loop-line.input) = rw was.tells told in
+    let ends : HasEnded cur after follows.0 = rw (c.in-Ok-None.is, c.in-Ok-None.field-0-is) at follows.1 in
+    ended-left cur.has_ended after.has_ended (g.S.Source.left c.loop-line.input) follows.0 (g.S.Source.left c.next.new.input)
+    (was.ended told seen) (λ opened ends. follows.3 opened ends tells) (follows.2.1 tells) ends.ended
+
+pub returns-in-Ok-None-clause-taken : goal.returns-in-Ok-None-clause-taken
+returns-in-Ok-None-clause-taken g c =
+    let was = c.loop-line.invariant in
+    let cur = c.loop-line.cutter in
+    let after = c.next.follows.lender-at-none in
+    let follows = c.next.follows.holds-at-none in
+    let ends : HasEnded cur after follows.0 = rw (c.in-Ok-None.is, c.in-Ok-None.field-0-is) at follows.1 in (
+      follows.2.0 ∙ was.tells,
+      λ told. (
+        was.taken.0 ++ follows.0,
+        took-took c.args.cutter.now cur after was.taken.0 follows.0 was.taken.1 ends.taken ends.limit,
+        left-left (g.S.Source.left c.args.input.now) was.taken.0 follows.0 (g.S.Source.left c.loop-line.input) (g.S.Source.left c.next.new.input) (was.taken.2 told) (follows.2.1 (rw was.tells told)),
+      ),
+    )
+
+pub returns-in-Err-clause-taken : goal.returns-in-Err-clause-taken
+returns-in-Err-clause-taken g c =
+    let was = c.loop-line.invariant in
+    let cur = c.loop-line.cutter in
+    let after = c.next.follows.lender-at-none in
+    let follows = c.next.follows.holds-at-none in
+    let stops : Stops cur after follows.0 c.in-Err.stop = rw c.in-Err.is at follows.1 in (
+      follows.2.0 ∙ was.tells,
+      λ told. (
+        was.taken.0 ++ follows.0,
+        took-took c.args.cutter.now cur after was.taken.0 follows.0 was.taken.1 stops.takes.taken stops.takes.limit,
+        left-left (g.S.Source.left c.args.input.now) was.taken.0 follows.0 (g.S.Source.left c.loop-line.input) (g.S.Source.left c.next.new.input) (was.taken.2 told) (follows.2.1 (rw was.tells told)),
+      ),
+    )
+
+pub returns-in_err-add-in-Ok-Some-clause-taken : goal.returns-in_err-add-in-Ok-Some-clause-taken
+returns-in_err-add-in-Ok-Some-clause-taken g c =
+    let was = c.loop-line.invariant in
+    let cur = c.loop-line.cutter in
+    let after = c.next.follows.lender-at-none in
+    let follows = c.next.follows.holds-at-none in
+    let gives : GivesLine cur after follows.0 (shown c.in-Ok-Some.line) = rw (c.in-Ok-Some.is, c.in-Ok-Some.field-0-is) at follows.1 in (
+      follows.2.0 ∙ was.tells,
+      λ told. (
+        was.taken.0 ++ follows.0,
+        took-took c.args.cutter.now cur after was.taken.0 follows.0 was.taken.1 gives.taken gives.limit,
+        left-left (g.S.Source.left c.args.input.now) was.taken.0 follows.0 (g.S.Source.left c.loop-line.input) (g.S.Source.left c.next.new.input) (was.taken.2 told) (follows.2.1 (rw was.tells told)),
+      ),
+    )

@@ -1,0 +1,17 @@
+use Rattle.std.proofs.Common.{◌≡◌, ℕ, ◌-◌, ◌++◌, List, IsTrue}
+use Rattle.ts_script.specs.Cutting.{Took, HasSeenAll}
+use Rattle.ts_script.proofs.BodySoFar.{IsReadSoFar}
+use Rattle.ts_script.proofs.body.read_base.Given as goal
+
+-- These bytes were taken so far, the lines before what is left were read, and no fault came.
+abbrev pub invariant-loop-line : goal.invariant-loop-line
+invariant-loop-line g l = record {
+  tells : g.S.Source.tells l.input ≡ g.S.Source.tells l.initial.input;
+  faults : g.S.Source.faults l.input ≡ g.S.Source.faults l.initial.input;
+  ended : IsTrue (g.S.Source.tells l.initial.input) → HasSeenAll l.initial.cutter (g.S.Source.left l.initial.input) → HasSeenAll l.cutter (g.S.Source.left l.input);
+  lines : IsTrue (g.S.Source.tells l.initial.input) → HasSeenAll l.initial.cutter (g.S.Source.left l.initial.input) → IsReadSoFar l.initial.cutter (g.S.Source.left l.initial.input) l.cutter (g.S.Source.left l.input) l.body.signed.items l.body.fault;
+  taken : (bytes : List ℕ) × Took l.initial.cutter l.cutter bytes × (IsTrue (g.S.Source.tells l.initial.input) → g.S.Source.left l.initial.input ≡ bytes ++ g.S.Source.left l.input);
+}
+
+abbrev pub decreases-loop-line : goal.decreases-loop-line
+decreases-loop-line g l = l.cutter.limit - l.cutter.passed

@@ -1,0 +1,5 @@
+use Rattle.ts_script.proofs.LinesLemmas.{lines_behind-fresh}
+use Rattle.ts_script.proofs.cutter.LineCutter.new.Goals as goal
+
+pub returns-clause-lines : goal.returns-clause-lines
+returns-clause-lines c = λ left. lines_behind-fresh c.in_ok-vec.field-0.items left

@@ -1,0 +1,23 @@
+use Rattle.std.proofs.Common.{refl, arith}
+use Rattle.ts_script.proofs.LinesLemmas.{settled_feed, settled_other}
+use Rattle.ts_script.proofs.cutter.LineCutter.settle_return.Goals as goal
+
+pub returns-then-index-eq10-clause-keeps : goal.returns-then-index-eq10-clause-keeps
+returns-then-index-eq10-clause-keeps c = record {
+  lines = λ left. settled_feed _ _ c.args.self.now.buffer.items left c.args.self.now.start c.args.self.now.end c.index.result.now c.args.self.now.one_of_two c.if-self.true (omega arith) (omega arith) c.index.ensures c.if-index-eq10.true;
+  taken = refl;
+  limit = refl;
+  number = refl;
+  has_ended = refl;
+  passed = omega arith;
+}
+
+pub returns-else-index-eq10-clause-keeps : goal.returns-else-index-eq10-clause-keeps
+returns-else-index-eq10-clause-keeps c = record {
+  lines = λ left. settled_other _ _ c.args.self.now.buffer.items left c.args.self.now.start c.args.self.now.end c.index.result.now c.args.self.now.one_of_two c.if-self.true (omega arith) (omega arith) c.index.ensures c.if-index-eq10.false;
+  taken = refl;
+  limit = refl;
+  number = refl;
+  has_ended = refl;
+  passed = omega arith;
+}

@@ -1,0 +1,13 @@
+use Rattle.std.proofs.Common.{arith}
+use Rattle.ts_script.proofs.LinesLemmas.{no_end-found, no_end-split}
+use Rattle.ts_script.proofs.cutter.LineCutter.whole_line.Goals as goal
+
+pub give-requires-clause-no_end : goal.give-requires-clause-no_end
+give-requires-clause-no_end c =
+    let now = c.settle_return.new.self in
+    no_end-found now.buffer.items now.start now.scanned c.in-Some.k now.end (omega arith) (omega (arith, c.in-Some.ensures.within)) now.no_end (rw c.deref.ensures.value at c.in-Some.ensures.before)
+
+pub let_go-requires-clause-no_end : goal.let_go-requires-clause-no_end
+let_go-requires-clause-no_end c =
+    let now = c.settle_return.new.self in
+    no_end-split now.buffer.items now.start now.scanned now.end (omega arith) (omega arith) now.no_end (rw c.deref.ensures.value at c.in-None.ensures.none)

@@ -1,0 +1,6 @@
+pub mod Body
+pub mod Cutting
+pub mod Lines
+pub mod Replies
+pub mod Stops
+pub mod Words

@@ -1,0 +1,70 @@
+-- The lines of a text.
+use Rattle.std.specs.Prelude.{◌≡◌, ℕ, ◌==◌, ◌||◌, nat_le, Bool, true, false, if◌then◌else◌, List, [], ◌∷◌, length, map, drop, refl}
+use Rattle.std.specs.List.{list_any}
+
+-- how many bytes a line may have, without its end
+abbrev pub line_limit : ℕ
+line_limit = 4194304
+
+-- a line feed or a carriage return
+abbrev pub is_end : ℕ → Bool
+is_end b = (b == 10) || (b == 13)
+
+-- the text has no end of a line
+abbrev pub HasNoEnd : List ℕ → Type 0
+HasNoEnd text = list_any is_end text ≡ false
+
+-- a byte before the first line
+abbrev pub onto_first : ℕ → List (List ℕ) → List (List ℕ)
+onto_first b [] = (b ∷ []) ∷ []
+onto_first b (line ∷ lines) = (b ∷ line) ∷ lines
+
+-- The lines of a text, each without its end, which is a line feed, a carriage return, or both in this order.
+-- The bytes after the last end are a line where there are any. Where a return stands directly before the text,
+-- a line feed at its front belongs to the end that the return began.
+unfoldable pub lines_after : Bool → List ℕ → List (List ℕ)
+lines_after after_return [] = []
+lines_after after_return (b ∷ text) =
+    if b == 13 then [] ∷ lines_after true text
+    else if b == 10 then (if after_return then lines_after false text else [] ∷ lines_after false text)
+    else onto_first b (lines_after false text)
+
+abbrev pub lines_of : List ℕ → List (List ℕ)
+lines_of text = lines_after false text
+
+-- a line feed at the front, which belongs to the end that a return began
+abbrev pub feed_of : Bool → List ℕ → ℕ
+feed_of false text = 0
+feed_of true [] = 0
+feed_of true (b ∷ text) = if b == 10 then 1 else 0
+
+-- a line as it is given: without its bytes where it is over the limit
+pub record Given : Type 0 where
+  pub bytes : List ℕ
+  pub too_long : Bool
+
+abbrev pub given : List ℕ → Given
+given line = if nat_le (length line) line_limit then record { bytes = line; too_long = false } else record { bytes = []; too_long = true }
+
+abbrev pub overlong : Given
+overlong = record { bytes = []; too_long = true }
+
+-- the same, where the front of the line went before if it was over the limit
+abbrev pub seen : Bool → List ℕ → Given
+seen is_overlong line = if is_overlong then overlong else given line
+
+-- The lines as they are given, where these bytes follow. Of an overlong line the front went before, more than a
+-- line may have, so it ends with the first end that follows.
+unfoldable pub lines_behind : Bool → Bool → List ℕ → List Given
+lines_behind is_overlong after_return text =
+    if is_overlong then overlong ∷ map given (drop 1 (lines_of text)) else map given (lines_after after_return text)
+
+-- `ab`, the three ends, a line between two ends, and `c` without an end
+lines-example : lines_of (97 ∷ 98 ∷ 10 ∷ 13 ∷ 10 ∷ 13 ∷ 10 ∷ 10 ∷ 99 ∷ []) ≡ (97 ∷ 98 ∷ []) ∷ [] ∷ [] ∷ [] ∷ (99 ∷ []) ∷ []
+unfolding lines_after
+lines-example = refl
+
+-- the last end begins no line
+lines-ended : lines_of (97 ∷ 13 ∷ 10 ∷ []) ≡ (97 ∷ []) ∷ []
+unfolding lines_after
+lines-ended = refl

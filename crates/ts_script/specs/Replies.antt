@@ -1,0 +1,24 @@
+-- What is told of a command, a line each.
+use Rattle.std.specs.Prelude.{ℕ, List, [], ◌∷◌, ◌++◌, codes, decimal}
+use Rattle.ts_model.specs.LayerText.{layer_text}
+use Rattle.ts_script.specs.declared.reply.Reply.{Reply}
+use Rattle.ts_script.specs.declared.reply.Reply.TheVariants.{Layer}
+use Rattle.ts_script.specs.declared.reply.Refusal.{Refusal}
+use Rattle.ts_script.specs.declared.reply.Refusal.TheVariants.{BadTriple, TooLong, Full, NotBuilt}
+
+-- a line ends with a line feed
+abbrev pub line : List ℕ → List ℕ
+line text = text ++ 10 ∷ []
+
+abbrev pub reply_text : Reply → List ℕ
+reply_text (Layer number) = line (codes "layer " ++ layer_text number)
+
+-- the words of a refusal
+abbrev pub refusal_words : Refusal → List ℕ
+refusal_words (BadTriple number) = codes "bad-triple " ++ decimal number
+refusal_words (TooLong number) = codes "too-long " ++ decimal number
+refusal_words Full = codes "full"
+refusal_words (NotBuilt number) = codes "not-built " ++ decimal number
+
+abbrev pub refusal_text : Refusal → List ℕ
+refusal_text refusal = line (codes "refused " ++ refusal_words refusal)

@@ -1,0 +1,105 @@
+// The body of a command, read from the lines of the input.
+ghost use Rattle.std.specs.Prelude.{◌≡◌, ◌+◌, ◌≤◌, ◌<◌, ◌++◌, ◌∷◌, [], ℕ, List, length, IsTrue, OnOk, IfOk, IfErr, true, false, map};
+ghost use Rattle.ts_site.specs.Telling.{Tells};
+ghost use Rattle.ts_script.specs.Lines.{given};
+ghost use Rattle.ts_script.specs.Body.{IsBase};
+ghost use Rattle.ts_script.specs.Cutting.{lines_to_come, Took, HasSeenAll};
+ghost use Rattle.ts_script.specs.Stops.{CountsScriptStop};
+
+use crate::{Body, Command, Line, LineCutter, ScriptStop};
+use std::alloc::{AllocError, Global};
+use ts_model::SignedTriple;
+use ts_nt::{LineError, read_line};
+use ts_site::Source;
+
+/// Why a line of a body is at fault. Its number.
+#[derive(Clone, Copy, Debug)]
+enum BodyFault {
+    /// It is no line of a triple.
+    Bad(u64),
+    /// It or one of its terms is over its limit.
+    TooLong(u64),
+}
+
+/// The lines of a body so far.
+#[derive(Drop)]
+struct BodySoFar {
+    signed: Vec<SignedTriple>,
+    fault: Option<BodyFault>,
+}
+
+impl BodySoFar {
+    ghost use Rattle.ts_script.specs.Body.{IsFaultOf};
+    ghost use Rattle.ts_script.specs.Cutting.{shown};
+
+    /// No line so far.
+    fn new(alloc: Global) -> BodySoFar
+        ensures { (before : ℕ) → IsFaultOf before [] result.signed.items result.fault }
+    {
+        BodySoFar {
+            signed: Vec::new(alloc),
+            fault: None,
+        }
+    }
+
+    /// Reads one more line. After the first line at fault each line is passed over.
+    fn add(&mut self, alloc: Global, line: &Line<'_>) -> Result<(), AllocError>
+        ensures { (before : ℕ) (lines : List (List ℕ)) (bytes : List ℕ) → given bytes ≡ shown line.now → line.now.number ≡ before + length lines + 1
+            → IsFaultOf before lines self.old.signed.items self.old.fault
+            → OnOk result (IsFaultOf before (lines ++ bytes ∷ []) self.new.signed.items self.new.fault) }
+    {
+        match self.fault {
+            Some(_) => return Ok(()),
+            None => {}
+        }
+        if line.too_long {
+            self.fault = Some(BodyFault::TooLong(line.number));
+            return Ok(());
+        }
+        match read_line(alloc, line.bytes) {
+            Ok(None) => {}
+            Ok(Some(signed)) => self.signed.push(signed)?,
+            Err(LineError::TooLong) => self.fault = Some(BodyFault::TooLong(line.number)),
+            Err(LineError::Bad) => self.fault = Some(BodyFault::Bad(line.number)),
+            Err(LineError::Memory) => return Err(AllocError),
+        }
+        Ok(())
+    }
+
+    /// The command `base` with this body.
+    fn into_base(self) -> Command
+        ensures { (before : ℕ) (lines : List (List ℕ)) → IsFaultOf before lines self.signed.items self.fault → IsBase before lines result }
+    {
+        match self.fault {
+            None => Command::Base {
+                body: Body::of(self.signed),
+            },
+            Some(BodyFault::Bad(line)) => Command::BadTriple { line },
+            Some(BodyFault::TooLong(line)) => Command::TooLong { line },
+        }
+    }
+}
+
+/// The command `base` with the lines that are left as its body, all of them.
+pub(crate) fn read_base<S: Source>(
+    alloc: Global,
+    cutter: &mut LineCutter,
+    input: &mut S,
+) -> Result<Command, ScriptStop>
+    ensures base { IsTrue (S.tells input.old) → HasSeenAll cutter.old (S.left input.old) → (lines : List (List ℕ)) → lines_to_come cutter.old (S.left input.old) ≡ map given lines
+        → IfOk result (IsBase cutter.old.number lines) }
+    ensures all { IsTrue (S.tells input.old) → HasSeenAll cutter.old (S.left input.old) → OnOk result (S.left input.new ≡ []) }
+    ensures taken { Tells (S.tells input.old) (S.tells input.new) ((bytes : List ℕ) × Took cutter.old cutter.new bytes × (S.left input.old ≡ bytes ++ S.left input.new)) }
+    ensures short { OnOk result (cutter.new.taken < cutter.new.limit) }
+    ensures limited { IfErr result (λ stop. stop ≡ ScriptStop.Limit → cutter.new.taken ≡ cutter.new.limit) }
+    ensures counts { CountsScriptStop result (S.faults input.old) (S.faults input.new) }
+{
+    let mut body = BodySoFar::new(alloc);
+    loop {
+        match cutter.next(input) {
+            Ok(Some(line)) => body.add(alloc, &line)?,
+            Ok(None) => return Ok(body.into_base()),
+            Err(stop) => return Err(stop.into()),
+        }
+    }
+}

@@ -1,0 +1,52 @@
+// What a user asks for.
+ghost use Rattle.std.specs.Prelude.{◌≡◌};
+
+use std::marker::Model;
+use ts_model::SignedTriple;
+
+/// The triples that the lines of a body name, with their signs, in the order of the lines.
+#[derive(Debug, Drop)]
+pub struct Body {
+    signed: Vec<SignedTriple>,
+}
+
+impl Model for Body {
+    ghost use Rattle.std.specs.Prelude.{List};
+    ghost use Rattle.ts_model.specs.declared.signed.SignedTriple.{SignedTriple};
+
+    ghost Value = { List SignedTriple };
+
+    ghost view = { λ body. body.signed.items };
+}
+
+impl Body {
+    pub fn of(signed: Vec<SignedTriple>) -> Body
+        ensures { result ≡ signed.items }
+    {
+        Body { signed }
+    }
+
+    pub fn signed(&self) -> &[SignedTriple]
+        ensures { result.now ≡ self.now }
+    {
+        &self.signed
+    }
+
+    /// The triples themselves.
+    pub fn into_signed(self) -> Vec<SignedTriple>
+        ensures { result.items ≡ self }
+    {
+        self.signed
+    }
+}
+
+/// A command, with its body where it has one.
+#[derive(Debug, Drop)]
+pub enum Command {
+    /// The body's first line at fault is no line of a triple.
+    BadTriple { line: u64 },
+    /// The body's first line at fault, or a term of it, is over its limit.
+    TooLong { line: u64 },
+    /// Makes a layer that stands alone.
+    Base { body: Body },
+}
