@@ -1,0 +1,195 @@
+//! Times the lookups of the structures over bytes: `bits N`, `numbers N`, `texts N`. It prints nanoseconds for each lookup,
+//! at places drawn at random. Any other words print what there is to time.
+#![tactic(auto)]
+
+ghost use Rattle.std.specs.Prelude.{◌≡◌};
+ghost use Rattle.std.specs.Cmp.Lexicographic.{slice_cmp};
+ghost use Rattle.std.specs.Ordering.{is_lt, nat_cmp};
+
+use std::alloc::{AllocError, Global};
+use std::env;
+use std::rt::{Clock, Env};
+use std::time::Instant;
+use ts_bits::{BitBuilder, BitView};
+use ts_front::{FrontBuilder, FrontView};
+use ts_log::{LogBuilder, LogView};
+
+/// How many lookups of a kind are timed.
+const LOOKUPS: u32 = 1_000_000;
+
+/// What is to be timed, and over how many elements.
+enum Task {
+    Bits(u64),
+    Numbers(u64),
+    Texts(u64),
+    Nothing,
+}
+
+fn main(rt: HostRuntime) -> anyhow::Result<()> {
+    match read_task(&rt)? {
+        Task::Bits(count) => time_bits(&rt, rt.alloc(), count),
+        Task::Numbers(count) => time_numbers(&rt, rt.alloc(), count),
+        Task::Texts(count) => time_texts(&rt, rt.alloc(), count),
+        Task::Nothing => {
+            println!(rt; "bits N, numbers N, texts N")?;
+            Ok(())
+        }
+    }
+}
+
+fn read_task(rt: &(impl Env + AllocGlobal)) -> anyhow::Result<Task> {
+    let mut words = env::args(rt)?;
+    let _program = words.next();
+    let (Some(kind), Some(count)) = (words.next(), words.next()) else {
+        return Ok(Task::Nothing);
+    };
+    let Ok(count) = count.as_str().parse() else {
+        return Ok(Task::Nothing);
+    };
+    Ok(match kind.as_str() {
+        "bits" => Task::Bits(count),
+        "numbers" => Task::Numbers(count),
+        "texts" => Task::Texts(count),
+        _ => Task::Nothing,
+    })
+}
+
+/// The next of a row of numbers that look drawn at random.
+fn draw(x: &mut u64) -> u64 {
+    *x = x
+        .wrapping_mul(6_364_136_223_846_793_005)
+        .wrapping_add(1_442_695_040_888_963_407);
+    *x >> 20
+}
+
+/// Prints how long a lookup took on average.
+fn tell(rt: &(impl Print + Clock), name: &str, start: Instant, seen: u64) -> anyhow::Result<()> {
+    let nanos = start.elapsed(rt)?.as_nanos() / u128::from(LOOKUPS);
+    println!(rt; "{name} {nanos} ns ({seen:x})")?;
+    Ok(())
+}
+
+fn time_bits(rt: &(impl Print + Clock), alloc: Global, count: u64) -> anyhow::Result<()> {
+    let mut builder = BitBuilder::new(alloc);
+    let mut x = 1;
+    for _ in 0..count {
+        builder.push(draw(&mut x) % 3 == 0)?;
+    }
+    let mut bytes = Vec::new(alloc);
+    builder.finish(&mut bytes)?;
+    if let Some(view) = BitView::open(&bytes) {
+        time_rank(rt, &view)?;
+        time_select(rt, &view)?;
+    }
+    Ok(())
+}
+
+fn time_rank(rt: &(impl Print + Clock), view: &BitView<'_>) -> anyhow::Result<()> {
+    let len = view.len();
+    if len == 0 {
+        return Ok(());
+    }
+    let (mut x, mut seen) = (1, 0);
+    let start = Instant::now(rt)?;
+    for _ in 0..LOOKUPS {
+        seen ^= view.rank1(draw(&mut x) % len);
+    }
+    tell(rt, "rank1", start, seen)
+}
+
+fn time_select(rt: &(impl Print + Clock), view: &BitView<'_>) -> anyhow::Result<()> {
+    let ones = view.rank1(view.len());
+    if ones == 0 {
+        return Ok(());
+    }
+    let (mut x, mut seen) = (1, 0);
+    let start = Instant::now(rt)?;
+    for _ in 0..LOOKUPS {
+        seen ^= view.select1(draw(&mut x) % ones).unwrap_or(0);
+    }
+    tell(rt, "select1", start, seen)
+}
+
+fn time_numbers(rt: &(impl Print + Clock), alloc: Global, count: u64) -> anyhow::Result<()> {
+    let mut builder = LogBuilder::new(alloc);
+    for number in 0..count {
+        builder.push(number)?;
+    }
+    let mut bytes = Vec::new(alloc);
+    builder.finish(&mut bytes)?;
+    if let Some(view) = LogView::open(&bytes) {
+        time_get(rt, &view)?;
+    }
+    Ok(())
+}
+
+fn time_get(rt: &(impl Print + Clock), view: &LogView<'_>) -> anyhow::Result<()> {
+    let len = view.len();
+    if len == 0 {
+        return Ok(());
+    }
+    let (mut x, mut seen) = (1, 0);
+    let start = Instant::now(rt)?;
+    for _ in 0..LOOKUPS {
+        seen ^= view.get(draw(&mut x) % len);
+    }
+    tell(rt, "get", start, seen)
+}
+
+/// A number in 8 lower-case hexadecimal digits.
+fn digits_of(number: u64) -> [u8; 8] {
+    let mut digits = [b'0'; 8];
+    let mut rest = number;
+    for digit in digits.iter_mut().rev() {
+        *digit = b"0123456789abcdef"[(rest % 16) as usize];
+        rest /= 16;
+    }
+    digits
+}
+
+/// Whether a text is below another.
+fn is_below(text: &[u8], other: &[u8]) -> bool
+    ensures { result ≡ is_lt (slice_cmp nat_cmp text.now other.now) }
+{
+    text.cmp(other).is_lt()
+}
+
+/// The dictionary of the numbers below a bound, at most 2^32, in 8 digits, as its two sections. That the numbers
+/// rise in digits is seen of each before it is pushed.
+fn dictionary(alloc: Global, count: u64) -> Result<(Vec<u8>, Vec<u8>), AllocError> {
+    let mut builder = FrontBuilder::new(alloc);
+    let mut last = [0; 8];
+    for number in 0..count {
+        let entry = digits_of(number);
+        if !is_below(&last, &entry) {
+            return Err(AllocError);
+        }
+        builder.push(&entry)?;
+        last = entry;
+    }
+    let mut starts = Vec::new(alloc);
+    let mut bytes = Vec::new(alloc);
+    builder.finish(&mut starts, &mut bytes)?;
+    Ok((starts, bytes))
+}
+
+fn time_texts(rt: &(impl Print + Clock), alloc: Global, count: u64) -> anyhow::Result<()> {
+    let (starts, bytes) = dictionary(alloc, count)?;
+    if let Some(view) = FrontView::open(&starts, &bytes) {
+        time_find(rt, &view)?;
+    }
+    Ok(())
+}
+
+fn time_find(rt: &(impl Print + Clock), view: &FrontView<'_>) -> anyhow::Result<()> {
+    let len = view.len();
+    if len == 0 {
+        return Ok(());
+    }
+    let (mut x, mut seen) = (1, 0);
+    let start = Instant::now(rt)?;
+    for _ in 0..LOOKUPS {
+        seen ^= view.find(&digits_of(draw(&mut x) % len)).unwrap_or(0);
+    }
+    tell(rt, "find", start, seen)
+}
