@@ -31,7 +31,7 @@ impl<'a> Model for Entries<'a> {
 
 impl<'a> Entries<'a> {
     /// The entries of a view, from the first on.
-    pub fn new(view: FrontView<'a>) -> Entries<'a>
+    pub(crate) fn new(view: FrontView<'a>) -> Entries<'a>
         ensures { result ≡ pieces_of view.entry }
     {
         Entries {

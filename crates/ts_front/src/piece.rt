@@ -1,8 +1,8 @@
 //! Entries by what they add to the ones before them, read from bytes.
 
 ghost use Rattle.std.specs.Prelude.{◌≡◌, ◌≢◌, ◌==◌, ℕ, ◌+◌, ◌-◌, ◌%◌, ◌^◌, ◌<◌, ◌≤◌, ◌++◌, List, IsTrue, length, take, drop, IfSome, IfNone};
-ghost use Rattle.ts_front.specs.Dictionary.{whole, place_of};
-ghost use Rattle.ts_front.specs.Pieces.{piece_bytes, IsBlock, shared_at, suffix_at};
+ghost use Rattle.ts_front.specs.Dictionary.{whole};
+ghost use Rattle.ts_front.specs.Pieces.{piece_bytes};
 
 use ts_vbyte::get;
 

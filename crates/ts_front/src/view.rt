@@ -1,6 +1,6 @@
 //! A front-coded dictionary read where it lies.
 
-ghost use Rattle.std.specs.Prelude.{◌≡◌, ◌≢◌, ℕ, ◌+◌, ◌*◌, ◌/◌, ◌^◌, ◌<◌, ◌≤◌, ◌++◌, ◌↔◌, List, length, IfSome, IfNone, IsTrue, OnOk};
+ghost use Rattle.std.specs.Prelude.{◌≡◌, ◌≢◌, ℕ, ◌+◌, ◌*◌, ◌/◌, ◌^◌, ◌<◌, ◌++◌, ◌↔◌, List, length, IfSome, IfNone, IsTrue, OnOk};
 ghost use Rattle.std.specs.Cmp.Lexicographic.{slice_cmp};
 ghost use Rattle.std.specs.Ordering.{nat_cmp};
 ghost use Rattle.std.specs.Int.{w64, to_be_bytes};
@@ -167,7 +167,7 @@ impl<'a> FrontView<'a> {
     }
 
     /// The piece of entry `i`, which begins at a place in the bytes, and the place after it.
-    pub fn piece(&self, i: u64, place: usize) -> (Piece<'a>, usize)
+    pub(crate) fn piece(&self, i: u64, place: usize) -> (Piece<'a>, usize)
         requires within { i < length self.now }
         requires begins { place ≡ place_of self.now i }
         ensures shares { result.0.shared ≡ shared_at self.now i }
