@@ -91,3 +91,10 @@ held starts bytes numbers body count texts says many is =
       is = subst (IsBody numbers body) (sym same) is;
       says = subst (DictionarySays starts bytes) (sym same) says;
     }
+
+-- two sections say one list at most: that of the entries' bytes
+pub one_list_read : (starts bytes body : List ℕ) (count : ℕ) (texts : List (List ℕ)) → DictionarySays starts bytes texts → count < 2 ^ 64
+    → bytes ≡ to_be_bytes w64 count ++ body → texts ≡ texts_in count body
+one_list_read starts bytes body count texts says small e =
+    let split : IsSplit texts count body = split_says starts bytes body count texts says small e in
+    sym (texts_read texts count body split.counted (split.spelled ∙ ap (entries_bytes texts) split.counted))

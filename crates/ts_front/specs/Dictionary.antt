@@ -3,6 +3,7 @@ use Rattle.std.specs.List.{range_with_len}
 use Rattle.std.specs.List.Sorted.{IsStrictlySortedBy}
 use Rattle.std.specs.Cmp.Lexicographic.{slice_cmp}
 use Rattle.std.specs.Ordering.{nat_cmp}
+use Rattle.std.specs.declared.cmp.Ordering.TheVariants.{Less}
 use Rattle.std.specs.Int.{w64, to_be_bytes}
 use Rattle.ts_log.specs.LogArray.{log_array_of}
 use Rattle.ts_vbyte.specs.Spelling.{spelling}
@@ -11,6 +12,10 @@ use Rattle.ts_front.specs.Shared.{shared_length, text_at}
 -- each text is below the next by its bytes
 abbrev pub Rising : List (List ℕ) → Type 0
 Rising texts = IsStrictlySortedBy (slice_cmp nat_cmp) texts
+
+-- the last text is below this one by its bytes, where there is a last text
+abbrev pub IsAfterLast : List (List ℕ) → List ℕ → Type 0
+IsAfterLast texts text = 0 < length texts → slice_cmp nat_cmp (text_at texts (length texts - 1)) text ≡ Less
 
 -- a text whole: its length, and its bytes
 unfoldable pub whole : List ℕ → List ℕ
@@ -52,3 +57,7 @@ pub record DictionarySays (starts bytes : List ℕ) (texts : List (List ℕ)) : 
   pub bytes_spelled : bytes ≡ dictionary_bytes texts
   pub counted : length texts < 2 ^ 64
   pub fits : length bytes < 2 ^ 64
+
+-- the two sections, whole, are the dictionary of no other texts
+abbrev pub DictionarySaysOnly : List ℕ → List ℕ → List (List ℕ) → Type 0
+DictionarySaysOnly starts bytes texts = (others : List (List ℕ)) → DictionarySays starts bytes others → others ≡ texts

@@ -3,7 +3,7 @@
 ghost use Rattle.std.specs.Prelude.{◌≡◌, ◌++◌, ◌∷◌, ◌==◌, ◌%◌, ℕ, List, [], length, if◌then◌else◌, OnOk, OnErr, IsSomeAnd, IfSome, Some};
 ghost use Rattle.std.specs.Bool.{MatchBool};
 ghost use Rattle.ts_front.specs.Buffer.{Extends};
-ghost use Rattle.ts_front.specs.Dictionary.{Rising, whole, added, dictionary_starts, dictionary_bytes, DictionarySays};
+ghost use Rattle.ts_front.specs.Dictionary.{IsAfterLast, whole, added, dictionary_starts, dictionary_bytes, DictionarySays};
 
 use crate::compare::shared_length;
 use crate::piece::BLOCK;
@@ -76,7 +76,7 @@ impl FrontBuilder {
 
     /// Adds a text at the end, which is greater than the last one by its bytes.
     pub fn push(&mut self, entry: &[u8]) -> Result<(), AllocError>
-        requires { IfSome self.old (λ texts. Rising (texts ++ entry.now ∷ [])) }
+        requires { IfSome self.old (λ texts. IsAfterLast texts entry.now) }
         ensures pushed { OnOk result (IsSomeAnd self.old (λ texts.
             self.new ≡ Some (texts ++ entry.now ∷ []))) }
         ensures failed { OnErr result (self.new ≡ None) }

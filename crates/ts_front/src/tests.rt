@@ -34,6 +34,23 @@ fn finds_three_entries(rt: HostRuntime) -> Result<(), Fail> {
 }
 
 #[test]
+fn reads_checked_sections(rt: HostRuntime) {
+    let view = FrontView::open(&STARTS, &BYTES).expect(&rt, "a dictionary");
+    let again = FrontView::of_checked(&STARTS, &BYTES).copy();
+    assert_eq!(rt; again.len(), view.len());
+    assert!(rt; !again.is_empty());
+    assert_eq!(rt; again.find(b"<ab>"), Some(1));
+}
+
+#[test]
+fn reads_no_entries(rt: HostRuntime) {
+    let starts = [0, 0, 0, 0, 0, 0, 0, 0, 1, 0, 0, 0, 0, 0, 0, 0];
+    let view = FrontView::open(&starts, &[0; 8]).expect(&rt, "a dictionary");
+    assert!(rt; view.is_empty());
+    assert_eq!(rt; view.find(b""), None);
+}
+
+#[test]
 fn compares_and_appends(rt: HostRuntime) -> Result<(), Fail> {
     let view = FrontView::open(&STARTS, &BYTES).ok_or("not a dictionary")?;
     assert_eq!(rt; view.len(), 3);

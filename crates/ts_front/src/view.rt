@@ -6,7 +6,7 @@ ghost use Rattle.std.specs.Ordering.{nat_cmp};
 ghost use Rattle.std.specs.Int.{w64, to_be_bytes};
 ghost use Rattle.std.specs.declared.cmp.Ordering.TheVariants.{Greater};
 ghost use Rattle.ts_front.specs.Buffer.{Extends};
-ghost use Rattle.ts_front.specs.Dictionary.{DictionarySays, place_of};
+ghost use Rattle.ts_front.specs.Dictionary.{DictionarySays, DictionarySaysOnly, place_of};
 ghost use Rattle.ts_front.specs.Pieces.{pieces_of, shared_at, suffix_at};
 ghost use Rattle.ts_front.specs.Shared.{text_at};
 
@@ -64,6 +64,7 @@ impl<'a> FrontView<'a> {
     /// The view of these two sections, where they are the dictionary of one list.
     pub fn open(starts: &'a [u8], bytes: &'a [u8]) -> Option<FrontView<'a>>
         ensures some { IfSome result (λ texts. DictionarySays starts.now bytes.now texts) }
+        ensures only { IfSome result (DictionarySaysOnly starts.now bytes.now) }
         ensures none { IfNone result ((texts : List (List ℕ)) → ¬ DictionarySays starts.now bytes.now texts) }
     {
         let starts = LogView::open(starts)?;
@@ -82,7 +83,8 @@ impl<'a> FrontView<'a> {
     /// The view of these two sections, which are the dictionary of a list.
     pub fn of_checked(starts: &'a [u8], bytes: &'a [u8]) -> FrontView<'a>
         requires { (texts : List (List ℕ)) × DictionarySays starts.now bytes.now texts }
-        ensures { DictionarySays starts.now bytes.now result }
+        ensures says { DictionarySays starts.now bytes.now result }
+        ensures only { DictionarySaysOnly starts.now bytes.now result }
     {
         let starts = LogView::of_checked(starts);
         match split_count(bytes) {

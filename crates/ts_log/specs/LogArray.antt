@@ -46,3 +46,7 @@ pub record LogSays (bytes numbers : List ℕ) : Type 0 where
   pub spelled : bytes ≡ log_array_of numbers
   pub fits : All (λ x. x < 2 ^ 64) numbers
   pub counted : length numbers < 2 ^ 64
+
+-- the bytes, whole, are the log array of no other numbers
+abbrev pub LogSaysOnly : List ℕ → List ℕ → Type 0
+LogSaysOnly bytes numbers = (others : List ℕ) → LogSays bytes others → others ≡ numbers

@@ -27,6 +27,14 @@ fn reads_one_two_three(rt: HostRuntime) -> Result<(), Fail> {
 }
 
 #[test]
+fn reads_checked_bytes(rt: HostRuntime) {
+    let view = LogView::of_checked(&ONE_TWO_THREE).copy();
+    assert_eq!(rt; view.len(), 3);
+    assert_eq!(rt; view.find_sorted(0, 3, 3), Some(2));
+    assert_eq!(rt; view.find_sorted(0, 3, 4), None);
+}
+
+#[test]
 fn reads_an_empty_list(rt: HostRuntime) -> Result<(), Fail> {
     let view = LogView::open(&EMPTY).ok_or("not a log array")?;
     assert!(rt; view.is_empty());

@@ -1,7 +1,7 @@
 //! A log array read where it lies.
 
 ghost use Rattle.std.specs.Prelude.{◌≡◌, ◌≢◌, ℕ, ◌+◌, ◌*◌, ◌<◌, ◌≤◌, List, length, take, slice_index, IfSome, IfNone, IsTrue, ◌↔◌};
-ghost use Rattle.ts_log.specs.LogArray.{LogSays};
+ghost use Rattle.ts_log.specs.LogArray.{LogSays, LogSaysOnly};
 ghost use Rattle.ts_log.specs.Rising.{RisesBetween};
 
 use crate::control::{CONTROL, read_control};
@@ -31,6 +31,7 @@ impl<'a> LogView<'a> {
     /// The view of these bytes, where they are a log array, whole.
     pub fn open(bytes: &'a [u8]) -> Option<LogView<'a>>
         ensures some { IfSome result (λ view. LogSays bytes.now view) }
+        ensures only { IfSome result (LogSaysOnly bytes.now) }
         ensures none { IfNone result ((numbers : List ℕ) → ¬ LogSays bytes.now numbers) }
     {
         let (view, size) = LogView::open_front(bytes)?;
@@ -62,7 +63,8 @@ impl<'a> LogView<'a> {
     /// The view of these bytes, which are a log array, whole.
     pub fn of_checked(bytes: &'a [u8]) -> LogView<'a>
         requires { (numbers : List ℕ) × LogSays bytes.now numbers }
-        ensures { LogSays bytes.now result }
+        ensures says { LogSays bytes.now result }
+        ensures only { LogSaysOnly bytes.now result }
     {
         let count = word_at(bytes, 0);
         let width = bytes[8] as u64;

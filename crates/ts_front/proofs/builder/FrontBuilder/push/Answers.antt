@@ -1,10 +1,11 @@
 use Rattle.std.proofs.Common.{◌≡◌, ℕ, ◌+◌, List, [], ◌∷◌, ◌++◌, cond, Bool, false, length, sym, ◌∙◌, ap, subst, arith}
 use Rattle.std.specs.Prelude.{Option, Some, None, IfSome, IsSomeAnd}
 use Rattle.std.proofs.lemmas.Bool.{cond-false}
-use Rattle.ts_front.specs.Dictionary.{Rising}
+use Rattle.ts_front.specs.Dictionary.{Rising, IsAfterLast}
 use Rattle.ts_front.specs.Reading.{texts_in}
 use Rattle.ts_front.specs.Building.{Holds}
 use Rattle.ts_front.proofs.EntriesLemmas.{count_le}
+use Rattle.ts_front.proofs.RisingLemmas.{rising_push}
 use Rattle.ts_front.proofs.BuilderLemmas.{push_holds, holds_read}
 use Rattle.ts_front.proofs.builder.FrontBuilder.push.Goals as goal
 
@@ -17,7 +18,8 @@ next c =
     let texts : List (List ℕ) = texts_in b.count b.body.items in
     let h : Holds b.starts b.body.items b.last.items b.count texts = c.self.invariant c.if-self.false in
     let same : Some texts ≡ c.args.self.now = seen b.failed texts c.args.self.now c.self.view_is c.if-self.false in
-    let rising : Rising (texts ++ c.args.entry.now ∷ []) = subst (λ o. IfSome o (λ ts. Rising (ts ++ c.args.entry.now ∷ []))) (sym same) c.requires in
+    let after : IsAfterLast texts c.args.entry.now = subst (λ o. IfSome o (λ ts. IsAfterLast ts c.args.entry.now)) (sym same) c.requires in
+    let rising : Rising (texts ++ c.args.entry.now ∷ []) = rising_push texts c.args.entry.now h.rising after in
     push_holds b.starts c.append_entry-appended.new.starts b.body.items c.append_entry-appended.new.body.items b.last.items c.append_entry-appended.new.last.items
     b.count texts c.args.entry.now h rising c.in-Ok.ensures.starts c.in-Ok.ensures.body c.in-Ok.ensures.last
 
@@ -27,7 +29,8 @@ later c =
     let texts : List (List ℕ) = texts_in b.count b.body.items in
     let h : Holds b.starts b.body.items b.last.items b.count texts = c.self.invariant c.if-self.false in
     let same : Some texts ≡ c.args.self.now = seen b.failed texts c.args.self.now c.self.view_is c.if-self.false in
-    let rising : Rising (texts ++ c.args.entry.now ∷ []) = subst (λ o. IfSome o (λ ts. Rising (ts ++ c.args.entry.now ∷ []))) (sym same) c.requires in
+    let after : IsAfterLast texts c.args.entry.now = subst (λ o. IfSome o (λ ts. IsAfterLast ts c.args.entry.now)) (sym same) c.requires in
+    let rising : Rising (texts ++ c.args.entry.now ∷ []) = rising_push texts c.args.entry.now h.rising after in
     push_holds b.starts c.append_entry-appended.new.starts b.body.items c.append_entry-appended.new.body.items b.last.items c.append_entry-appended.new.last.items
     b.count texts c.args.entry.now h rising c.in-Ok.ensures.starts c.in-Ok.ensures.body c.in-Ok.ensures.last
 

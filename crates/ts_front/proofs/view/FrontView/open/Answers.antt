@@ -1,7 +1,7 @@
 use Rattle.std.proofs.Common.{length, ap, arith}
 use Rattle.std.proofs.lemmas.Bool.{OnTrue_at, OnFalse_at}
 use Rattle.ts_front.specs.Dictionary.{block_starts}
-use Rattle.ts_front.proofs.SaysLemmas.{starts_said, bytes_long, Held, body_of_says, says_of_body, held}
+use Rattle.ts_front.proofs.SaysLemmas.{starts_said, bytes_long, Held, body_of_says, says_of_body, held, one_list_read}
 use Rattle.ts_front.proofs.view.FrontView.open.Goals as goal
 
 pub returns-in_err-starts-clause-none : goal.returns-in_err-starts-clause-none
@@ -47,3 +47,7 @@ returns-else-is_body-clause-none c = λ texts says.
     let found = body_of_says c.args.starts.now c.args.bytes.now c.in_ok-starts.starts c.in_ok-count.body.now c.in_ok-count.count texts says
     c.in_ok-starts.ensures.some c.in_ok-count.ensures.fits c.in_ok-count.ensures.some in
     OnFalse_at c.if-is_body.false c.is_body.ensures.no texts found.0 found.1
+
+pub returns-then-is_body-clause-only : goal.returns-then-is_body-clause-only
+returns-then-is_body-clause-only c = λ others says.
+    one_list_read c.args.starts.now c.args.bytes.now c.in_ok-count.body.now c.in_ok-count.count others says c.in_ok-count.ensures.fits c.in_ok-count.ensures.some
