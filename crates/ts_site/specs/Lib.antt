@@ -6,5 +6,6 @@ pub mod MemorySite
 pub mod MemorySource
 pub mod Origin
 pub mod Output
+pub mod Recorder
 pub mod Source
 pub mod Telling

@@ -1,52 +1,90 @@
--- What a site in memory tells.
-use Rattle.std.specs.Prelude.{◌≡◌, ℕ, ◌+◌, ◌-◌, ◌^◌, min, nat_lt, nat_le, ◌&&◌, Bool, List, ◌++◌, length, Result, Ok, Err, MatchBool}
+-- What a site in memory tells, and the faults that are planned for it.
+use Rattle.std.specs.Prelude.{◌≡◌, ℕ, ◌-◌, ◌==◌, ◌&&◌, ◌/◌, Bool, List, [], ◌∷◌, ◌++◌, take, length, Option, None, Some, Result, Err, MatchBool, if◌then◌else◌}
 use Rattle.ts_site.specs.declared.disk.Failed.{Failed}
 use Rattle.ts_site.specs.declared.call.Call.{Call}
 use Rattle.ts_site.specs.declared.memory_site.MemorySite.{MemorySite}
-use Rattle.ts_site.specs.Folder.{Folder, no_files}
-use Rattle.ts_site.specs.Call.{folder_after, with_files}
+use Rattle.ts_site.specs.declared.plan.CallKind.{CallKind}
+use Rattle.ts_site.specs.declared.plan.CallKind.TheVariants as kind
+use Rattle.ts_site.specs.declared.plan.FaultKind.{FaultKind}
+use Rattle.ts_site.specs.declared.plan.FaultKind.TheVariants.{Nothing, Happened, Half}
+use Rattle.ts_site.specs.declared.plan.Plan.{Plan}
+use Rattle.ts_site.specs.Folder.{Folder}
+use Rattle.ts_site.specs.Recorder.{MemoryState, memory_state as recorded, memory_calls as calls_of, one_more, has_room, MakesDiskCall, MakesSayCall}
 
--- the folder as it reads, the bytes said, the calls and bytes that are left, and the counts of faults
-pub record MemoryState : Type 0 where
-  pub folder : Folder
-  pub told : List ℕ
-  pub calls_left : ℕ
-  pub bytes_left : ℕ
-  pub disk_faults : ℕ
-  pub say_faults : ℕ
-
+-- the folder, what was said, the room and the counts
 abbrev pub memory_state : MemorySite → MemoryState
-memory_state site = record {
-  folder = folder_after site.store.items site.calls.items (with_files site.store.items site.settled.items no_files);
-  told = site.told.items;
-  calls_left = site.calls_left;
-  bytes_left = site.bytes_left;
-  disk_faults = site.disk_faults;
-  say_faults = site.say_faults;
-}
+memory_state site = recorded site.recorder
 
--- the calls that were made, the first of them first
+-- the calls that happened, the first of them first
 abbrev pub memory_calls : MemorySite → List Call
-memory_calls site = site.calls.items
+memory_calls site = calls_of site.recorder
 
--- one fault more, in a number of 64 bits
-abbrev pub one_more : ℕ → ℕ
-one_more count = min (count + 1) (2 ^ 64 - 1)
+-- the faults that are planned, the first plan first
+abbrev pub plans_of : MemorySite → List Plan
+plans_of site = site.plans.items
 
--- whether there is room for a call and for these bytes
-abbrev pub has_room : MemoryState → ℕ → Bool
-has_room state bytes = nat_lt 0 state.calls_left && nat_le bytes state.bytes_left
+abbrev pub kind_place : CallKind → ℕ
+kind_place kind.List = 0
+kind_place kind.Size = 1
+kind_place kind.ReadAt = 2
+kind_place kind.Create = 3
+kind_place kind.Append = 4
+kind_place kind.Sync = 5
+kind_place kind.Rename = 6
+kind_place kind.Remove = 7
+kind_place kind.SyncNames = 8
+kind_place kind.Barrier = 9
+kind_place kind.Say = 10
 
--- A call on the disk that uses these bytes and leaves this folder. Where there is too little room it fails, and nothing is done.
-abbrev pub MakesDiskCall : Result (Unit {0}) Failed → ℕ → Folder → MemoryState → MemoryState → Type 0
-MakesDiskCall result bytes folder old new =
-    MatchBool (has_room old bytes)
-    ((result ≡ Ok tt) × (new ≡ record old { folder = folder; calls_left = old.calls_left - 1; bytes_left = old.bytes_left - bytes }))
-    ((result ≡ Err (record {})) × (new ≡ record old { disk_faults = one_more old.disk_faults }))
+abbrev pub speaks_of : CallKind → Plan → Bool
+speaks_of called plan = kind_place plan.kind == kind_place called
+
+-- a plan after a call: the call that it speaks of is one nearer
+abbrev pub nearer : CallKind → Plan → Plan
+nearer called plan = if speaks_of called plan then record plan { left = plan.left - 1 } else plan
+
+-- whether a plan makes this call fail
+abbrev pub is_due : CallKind → Plan → Bool
+is_due called plan = speaks_of called plan && (plan.left == 1)
+
+-- the fault that is planned for a call: of two plans the later holds
+abbrev pub planned_behind : Option FaultKind → CallKind → List Plan → Option FaultKind
+planned_behind found called [] = found
+planned_behind found called (plan ∷ plans) = planned_behind (if is_due called plan then Some plan.how else found) called plans
+
+abbrev pub planned : CallKind → List Plan → Option FaultKind
+planned = planned_behind None
+
+-- what a call that failed by plan leaves: of what it would change, nothing, all, or what half of its bytes change
+abbrev pub left_by : {A : Type 0} → FaultKind → A → A → A → A
+left_by Nothing all half none = none
+left_by Happened all half none = all
+left_by Half all half none = half
+
+-- A call on the disk that uses these bytes, with the folder that it makes and the one that half of its bytes make. Where a fault
+-- is planned for it, it fails, and uses its room all the same.
+abbrev pub DoesDiskCall : Option FaultKind → Result (Unit {0}) Failed → ℕ → Folder → Folder → MemoryState → MemoryState → Type 0
+DoesDiskCall None result bytes all half old new = MakesDiskCall result bytes all old new
+DoesDiskCall (Some how) result bytes all half old new =
+    (result ≡ Err (record {}))
+    × MatchBool (has_room old bytes)
+    (new ≡ record old { folder = left_by how all half old.folder; calls_left = old.calls_left - 1; bytes_left = old.bytes_left - bytes; disk_faults = one_more old.disk_faults })
+    (new ≡ record old { disk_faults = one_more old.disk_faults })
+
+-- the half of a piece that comes first
+abbrev pub first_half : List ℕ → List ℕ
+first_half piece = take (length piece / 2) piece
 
 -- the same of a call that says a piece
-abbrev pub MakesSayCall : Result (Unit {0}) Failed → List ℕ → MemoryState → MemoryState → Type 0
-MakesSayCall result piece old new =
-    MatchBool (has_room old (length piece))
-    ((result ≡ Ok tt) × (new ≡ record old { told = old.told ++ piece; calls_left = old.calls_left - 1; bytes_left = old.bytes_left - length piece }))
-    ((result ≡ Err (record {})) × (new ≡ record old { say_faults = one_more old.say_faults }))
+abbrev pub DoesSayCall : Option FaultKind → Result (Unit {0}) Failed → List ℕ → MemoryState → MemoryState → Type 0
+DoesSayCall None result piece old new = MakesSayCall result (length piece) piece old new
+DoesSayCall (Some how) result piece old new =
+    (result ≡ Err (record {}))
+    × MatchBool (has_room old (length piece))
+    (new ≡ record old { told = old.told ++ left_by how piece (first_half piece) []; calls_left = old.calls_left - 1; bytes_left = old.bytes_left - length piece; say_faults = one_more old.say_faults })
+    (new ≡ record old { say_faults = one_more old.say_faults })
+
+-- a call that reads: where a fault is planned for it, it counts one
+abbrev pub state_after_reading : Option FaultKind → MemoryState → MemoryState
+state_after_reading None old = old
+state_after_reading (Some how) old = record old { disk_faults = one_more old.disk_faults }

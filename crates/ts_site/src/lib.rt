@@ -4,7 +4,8 @@
 //! - [`Disk`] is a folder that can be listed, read, written, renamed in and settled.
 //! - [`Site`] is a disk with an output.
 //! - [`Source`] gives the bytes of an input.
-//! - [`MemorySite`] and [`MemorySource`] are a site and a source in memory, which tell everything.
+//! - [`MemorySite`] and [`MemorySource`] are a site and a source in memory, which tell everything and fail where that is
+//!   planned, by [`CallKind`] and [`FaultKind`].
 //!
 //! An implementation tells what its folder, its output or its input holds, or tells nothing of it. The
 //! contracts of the calls speak of these meanings where they are told; the counts of faults hold always.
@@ -16,6 +17,8 @@ mod disk;
 mod file_name;
 mod memory_site;
 mod memory_source;
+mod plan;
+mod recorder;
 mod site;
 mod source;
 
@@ -23,6 +26,7 @@ pub use disk::{Disk, Failed, ListFail};
 pub use file_name::FileName;
 pub use memory_site::MemorySite;
 pub use memory_source::MemorySource;
+pub use plan::{CallKind, FaultKind};
 pub use site::Site;
 pub use source::Source;
 

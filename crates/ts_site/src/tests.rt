@@ -56,6 +56,93 @@ fn a_source_gives_its_bytes(rt: HostRuntime) -> Result<(), Fail> {
 }
 
 #[test]
+#[tactic(auto, using(crate::proofs::ListingLemmas::stands_same))]
+fn an_append_fails_by_plan(rt: HostRuntime) -> Result<(), Fail> {
+    for (how, left) in [
+        (FaultKind::Nothing, b"".as_slice()),
+        (FaultKind::Happened, b"abcd".as_slice()),
+        (FaultKind::Half, b"ab".as_slice()),
+    ] {
+        let mut site = MemorySite::new(rt.alloc(), 20, 100)?;
+        let name = FileName::of(b"log").ok_or("name")?;
+        site.put_file(&name, b"")?;
+        site.fail(CallKind::Append, 1, how)?;
+        assert!(rt; site.append(&name, b"abcd").is_err());
+        assert_eq!(rt; site.file(&name), Some(left));
+        assert_eq!(rt; site.room(), (19, 96));
+    }
+    Ok(())
+}
+
+#[test]
+fn a_rename_fails_and_happened(rt: HostRuntime) -> Result<(), Fail> {
+    let mut site = MemorySite::new(rt.alloc(), 20, 100)?;
+    let from = FileName::of(b"from").ok_or("name")?;
+    let to = FileName::of(b"to").ok_or("name")?;
+    site.put_file(&from, b"bytes")?;
+    site.fail(CallKind::Rename, 1, FaultKind::Happened)?;
+    assert!(rt; site.rename(&from, &to).is_err());
+    assert_eq!(rt; site.file(&from), None);
+    assert_eq!(rt; site.file(&to), Some(b"bytes".as_slice()));
+    Ok(())
+}
+
+#[test]
+fn the_later_plan_holds(rt: HostRuntime) -> Result<(), Fail> {
+    let mut site = MemorySite::new(rt.alloc(), 20, 100)?;
+    site.fail(CallKind::Say, 2, FaultKind::Nothing)?;
+    site.fail(CallKind::Say, 2, FaultKind::Half)?;
+    site.barrier()?;
+    site.say(b"one ")?;
+    assert!(rt; site.say(b"four").is_err());
+    site.say(b"!")?;
+    assert_eq!(rt; site.told(), b"one fo!".as_slice());
+    Ok(())
+}
+
+#[test]
+fn failed_calls_are_counted(rt: HostRuntime) -> Result<(), Fail> {
+    let mut site = MemorySite::new(rt.alloc(), 20, 100)?;
+    site.barrier()?;
+    site.fail(CallKind::Barrier, 1, FaultKind::Nothing)?;
+    site.fail(CallKind::Barrier, 3, FaultKind::Happened)?;
+    for fails in [true, false, true, false] {
+        assert_eq!(rt; site.barrier().is_err(), fails);
+    }
+    Ok(())
+}
+
+#[test]
+fn a_listing_fails_by_plan(rt: HostRuntime) -> Result<(), Fail> {
+    let alloc = rt.alloc();
+    let mut site = MemorySite::new(alloc, 20, 100)?;
+    site.create(&FileName::of(b"kept").ok_or("name")?)?;
+    site.fail(CallKind::List, 1, FaultKind::Happened)?;
+    let mut names = Vec::new(alloc);
+    assert_eq!(rt; site.list(alloc, &mut names), Err(ListFail::Failed));
+    assert_eq!(rt; names.len(), 0);
+    site.list(alloc, &mut names)?;
+    assert_eq!(rt; names.len(), 1);
+    Ok(())
+}
+
+#[test]
+fn a_take_fails_by_plan(rt: HostRuntime) -> Result<(), Fail> {
+    let mut source = MemorySource::new(rt.alloc(), b"abcde")?;
+    let mut buffer = [0; 3];
+    source.piece(2);
+    source.fail(2);
+    assert_eq!(rt; source.take(&mut buffer)?, 2);
+    assert_eq!(rt; buffer, [b'a', b'b', 0]);
+    assert!(rt; source.take(&mut buffer).is_err());
+    assert_eq!(rt; source.take(&mut buffer)?, 2);
+    assert_eq!(rt; buffer, [b'c', b'd', 0]);
+    assert_eq!(rt; source.take(&mut buffer)?, 1);
+    assert_eq!(rt; buffer, [b'e', b'd', 0]);
+    Ok(())
+}
+
+#[test]
 fn names_keep_the_rule(rt: HostRuntime) -> Result<(), Fail> {
     let name = FileName::of(b"00000001.layer").ok_or("name")?;
     assert_eq!(rt; name.copy().bytes(), b"00000001.layer".as_slice());

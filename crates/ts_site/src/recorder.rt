@@ -1,0 +1,221 @@
+// A folder and an output in memory, with the calls that happened.
+ghost use Rattle.std.specs.Prelude.{◌≡◌, ◌+◌, ◌^◌, ◌≤◌, ◌++◌, ◌-◌, [], ℕ, Err, IsTrue, IfOk, OnOk, OnErr, slice_range, vec_len, vec_capacity, option_copied, length, take};
+ghost use Rattle.std.specs.List.{list_all};
+ghost use Rattle.std.specs.FinMap.{get, insert, contains_key};
+ghost use Rattle.ts_site.specs.Folder.{no_files, appended, length_at, AreNamesOf};
+ghost use Rattle.ts_site.specs.Call.{happens, lies_in, call_lies_in};
+
+use crate::call::{Call, Stored, range_of, standing};
+use crate::{Failed, FileName};
+use std::alloc::{AllocError, Global};
+
+/// A folder and an output in memory, which keep all calls that happened and the room for more.
+#[derive(Debug, Drop)]
+pub struct Recorder {
+    settled: Vec<Stored>,
+    calls: Vec<Call>,
+    store: Vec<u8>,
+    told: Vec<u8>,
+    calls_left: u64,
+    bytes_left: u64,
+    disk_faults: u64,
+    say_faults: u64,
+    ghost stored: { IsTrue (list_all (lies_in (vec_len store)) settled.items) },
+    ghost called: { IsTrue (list_all (call_lies_in (vec_len store)) calls.items) },
+    ghost disk_count: { disk_faults ≤ 2 ^ 64 - 1 },
+    ghost say_count: { say_faults ≤ 2 ^ 64 - 1 },
+    ghost room_for_calls: { vec_len calls + calls_left ≤ vec_capacity calls },
+    ghost room_to_store: { vec_len store + bytes_left ≤ vec_capacity store },
+    ghost room_to_say: { vec_len told + bytes_left ≤ vec_capacity told },
+}
+
+impl Recorder {
+    ghost use Rattle.ts_site.specs.Recorder.{memory_state, memory_calls, MakesDiskCall, MakesSayCall, spoiled, spoiled_say, one_more};
+
+    /// An empty folder, with room for this many calls that change the folder, settle it or say something,
+    /// and for this many bytes. An append uses as many bytes as its file has with the whole piece added, and
+    /// a say as many as its piece has.
+    pub fn new(alloc: Global, calls: u64, bytes: u64) -> Result<Recorder, AllocError>
+        ensures state { IfOk result (λ site. memory_state site ≡ record { folder = no_files; told = []; calls_left = calls; bytes_left = bytes; disk_faults = 0; say_faults = 0 }) }
+        ensures no_calls { IfOk result (λ site. memory_calls site ≡ []) }
+    {
+        Ok(Recorder {
+            settled: Vec::new(alloc),
+            calls: Vec::with_capacity(alloc, calls as usize)?,
+            store: Vec::with_capacity(alloc, bytes as usize)?,
+            told: Vec::with_capacity(alloc, bytes as usize)?,
+            calls_left: calls,
+            bytes_left: bytes,
+            disk_faults: 0,
+            say_faults: 0,
+        })
+    }
+
+    /// The calls and the bytes that are left.
+    pub fn room(&self) -> (u64, u64)
+        ensures { result ≡ ((memory_state self.now).calls_left, (memory_state self.now).bytes_left) }
+    {
+        (self.calls_left, self.bytes_left)
+    }
+
+    /// The bytes said so far.
+    pub fn told(&self) -> &[u8]
+        ensures { result.now ≡ (memory_state self.now).told }
+    {
+        &self.told
+    }
+
+    /// The bytes of a file, None exactly where the name is absent.
+    pub fn file(&self, name: &FileName) -> Option<&[u8]>
+        ensures { option_copied result ≡ get (memory_state self.now).folder name.now }
+    {
+        let (start, end) = range_of(&self.settled, &self.calls, name)?;
+        Some(&self.store[start..end])
+    }
+
+    /// Sets a file that was there from the start.
+    pub fn put_file(&mut self, name: &FileName, bytes: &[u8]) -> Result<(), AllocError>
+        requires { memory_calls self.old ≡ [] }
+        ensures ok { OnOk result (memory_state self.new
+            ≡ record (memory_state self.old) { folder = insert (memory_state self.old).folder name.now bytes.now }) }
+        ensures err { OnErr result (memory_state self.new ≡ memory_state self.old) }
+        ensures no_calls { memory_calls self.new ≡ [] }
+    {
+        let more = (self.bytes_left as usize)
+            .checked_add(bytes.len())
+            .ok_or(AllocError)?;
+        self.settled.reserve(1)?;
+        self.store.reserve(more)?;
+        let (start, end) = store_longer(&mut self.store, 0, 0, bytes);
+        let name = name.copy();
+        self.settled.push(Stored { name, start, end }).unwrap();
+        Ok(())
+    }
+
+    /// Adds the first `kept` of the bytes at the end of a file, and uses the room for all of them.
+    pub fn append(&mut self, name: &FileName, bytes: &[u8], kept: usize) -> Result<(), Failed>
+        requires standing { IsTrue (contains_key (memory_state self.old).folder name.now) }
+        requires within { kept ≤ length bytes.now }
+        ensures { MakesDiskCall result (length_at (memory_state self.old).folder name.now + length bytes.now)
+            (appended (memory_state self.old).folder name.now (take kept bytes.now)) (memory_state self.old) (memory_state self.new) }
+    {
+        let (start, end) = range_of(&self.settled, &self.calls, name).unwrap();
+        let before = (end - start) as u64;
+        if self.calls_left == 0
+            || self.bytes_left < before
+            || self.bytes_left - before < bytes.len() as u64
+        {
+            self.count_disk_fault();
+            return Err(Failed);
+        }
+        self.calls_left -= 1;
+        self.bytes_left -= before + bytes.len() as u64;
+        let (start, end) = store_longer(&mut self.store, start, end, &bytes[..kept]);
+        let name = name.copy();
+        self.calls
+            .push(Call::Append(Stored { name, start, end }))
+            .unwrap();
+        Ok(())
+    }
+
+    /// Makes a call that uses no bytes.
+    pub fn make(&mut self, call: Call) -> Result<(), Failed>
+        requires { (size : ℕ) → IsTrue (call_lies_in size call) }
+        ensures { MakesDiskCall result 0 (happens self.old.store.items call (memory_state self.old).folder) (memory_state self.old) (memory_state self.new) }
+    {
+        if self.calls_left == 0 {
+            self.count_disk_fault();
+            return Err(Failed);
+        }
+        self.calls_left -= 1;
+        self.calls.push(call).unwrap();
+        Ok(())
+    }
+
+    /// Uses the room for a call, which does nothing.
+    pub fn pass(&mut self) -> Result<(), Failed>
+        ensures { MakesDiskCall result 0 (memory_state self.old).folder (memory_state self.old) (memory_state self.new) }
+    {
+        if self.calls_left == 0 {
+            self.count_disk_fault();
+            return Err(Failed);
+        }
+        self.calls_left -= 1;
+        Ok(())
+    }
+
+    /// Says the first `kept` bytes of a piece, and uses the room for all of it.
+    pub fn say(&mut self, piece: &[u8], kept: usize) -> Result<(), Failed>
+        requires { kept ≤ length piece.now }
+        ensures { MakesSayCall result (length piece.now) (take kept piece.now) (memory_state self.old) (memory_state self.new) }
+    {
+        if self.calls_left == 0 || self.bytes_left < piece.len() as u64 {
+            self.count_say_fault();
+            return Err(Failed);
+        }
+        self.calls_left -= 1;
+        self.bytes_left -= piece.len() as u64;
+        self.told.extend_from_slice(&piece[..kept]).unwrap();
+        self.calls.push(Call::Say(self.told.len())).unwrap();
+        Ok(())
+    }
+
+    /// The names that stand, each once.
+    pub fn names(&self, alloc: Global) -> Result<Vec<FileName>, AllocError>
+        ensures { IfOk result (λ names. AreNamesOf (memory_state self.now).folder names.items) }
+    {
+        standing(alloc, &self.settled, &self.calls)
+    }
+
+    /// Makes a call on the disk fail that was made.
+    pub fn spoil(&mut self, made: Result<(), Failed>) -> Result<(), Failed>
+        ensures failed { result ≡ Err (record {}) }
+        ensures state { memory_state self.new ≡ spoiled made (memory_state self.old) }
+    {
+        if made.is_ok() {
+            self.count_disk_fault();
+        }
+        Err(Failed)
+    }
+
+    /// Makes a say fail that was made.
+    pub fn spoil_say(&mut self, made: Result<(), Failed>) -> Result<(), Failed>
+        ensures failed { result ≡ Err (record {}) }
+        ensures state { memory_state self.new ≡ spoiled_say made (memory_state self.old) }
+    {
+        if made.is_ok() {
+            self.count_say_fault();
+        }
+        Err(Failed)
+    }
+
+    /// One fault of the disk more.
+    pub fn count_disk_fault(&mut self)
+        ensures { memory_state self.new ≡ record (memory_state self.old) { disk_faults = one_more (memory_state self.old).disk_faults } }
+    {
+        self.disk_faults = self.disk_faults.saturating_add(1);
+    }
+
+    /// One fault of the output more.
+    pub fn count_say_fault(&mut self)
+        ensures { memory_state self.new ≡ record (memory_state self.old) { say_faults = one_more (memory_state self.old).say_faults } }
+    {
+        self.say_faults = self.say_faults.saturating_add(1);
+    }
+}
+
+// Stores the bytes of a file with a piece added, and gives where they lie.
+fn store_longer(store: &mut Vec<u8>, start: usize, end: usize, piece: &[u8]) -> (usize, usize)
+    requires range { (start ≤ end) × (end ≤ vec_len store.old) }
+    requires room { vec_len store.old + (end - start) + length piece.now ≤ vec_capacity store.old }
+    ensures items { store.new.items ≡ store.old.items ++ (slice_range store.old.items start end ++ piece.now) }
+    ensures start { result.0 ≡ vec_len store.old }
+    ensures end { result.1 ≡ vec_len store.new }
+    ensures longer { vec_len store.old ≤ vec_len store.new }
+    ensures capacity { vec_capacity store.old ≤ vec_capacity store.new }
+{
+    let begin = store.len();
+    store.extend_from_within(start..end).unwrap();
+    store.extend_from_slice(piece).unwrap();
+    (begin, store.len())
+}
