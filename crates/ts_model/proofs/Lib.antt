@@ -1,5 +1,16 @@
+pub mod BirthOrder
+pub mod CharLemmas
+pub mod HistoryLaws
+pub mod IriLaws
+pub mod LabelLaws
 pub mod LayerLemmas
 pub mod ListLaws
+pub mod LiteralLaws
 pub mod NetLaws
+pub mod PieceLaws
+pub mod SetAlgebra
 pub mod SetLaws
+pub mod SpellingLaws
+pub mod TagLaws
+pub mod TextLaws
 pub mod Vectors

@@ -1,14 +1,19 @@
 //! The model of a store: terms, triples, bodies, names and layer numbers, without a file.
 //!
-//! A [`Term`] is a kind and its canonical spelling; a [`Triple`] is three of them, in the order of their bytes; a
-//! [`Pattern`] takes some triples. A body is a list of [`SignedTriple`], and [`net_additions`] is what it adds to a new
-//! base, of which [`totals_of`] counts the terms. [`LabelName`], [`CursorName`] and [`layer_text`] name what a store has.
+//! A [`Term`] is a kind and its canonical spelling, as [`is_canonical`] decides it; a [`Triple`] is three of them, in the
+//! order of their bytes; a [`Pattern`] takes some triples. A body is a list of [`SignedTriple`], and [`net_additions`] is
+//! what it adds to a new base, of which [`totals_of`] counts the terms. [`LabelName`], [`CursorName`] and [`layer_text`]
+//! name what a store has.
 //!
 //! In contracts a term is its kind and its spelling, a triple is three such terms, and a set of triples has one rising
 //! list of members. The layer above uses that `net_additions` gives exactly the members of the set that the body adds:
 //! of the lines that name a triple, the last one decides.
 #![tactic(auto)]
 
+pub use canonical::is_canonical;
+pub use characters::{
+    is_digit, is_direct_in_iri, is_letter, is_name_character, is_name_start, split_char,
+};
 pub use layer::{layer_number, layer_text};
 pub use names::{CursorName, LabelName};
 pub use net::net_additions;
@@ -18,6 +23,13 @@ pub use term::{Term, TermError, TermKind};
 pub use totals::{Totals, totals_of};
 pub use triple::Triple;
 
+mod canonical;
+mod canonical_iri;
+mod canonical_label;
+mod canonical_literal;
+mod canonical_mark;
+mod canonical_tag;
+mod characters;
 mod layer;
 mod names;
 mod net;

@@ -1,8 +1,8 @@
-ghost use Rattle.std.specs.Prelude.{◌≡◌, ◌≢◌, IfOk};
+ghost use Rattle.std.specs.Prelude.{◌≡◌, ◌≢◌, ◌<◌, ◌^◌, IfOk};
 
 use crate::{
-    CursorName, LabelName, Pattern, Sign, SignedTriple, Term, TermKind, Triple, layer_number,
-    layer_text, net_additions, totals_of,
+    CursorName, LabelName, Pattern, Sign, SignedTriple, Term, TermError, TermKind, Triple,
+    is_canonical, layer_number, layer_text, net_additions, totals_of,
 };
 use std::alloc::{AllocError, Global};
 use std::test::Fail;
@@ -81,4 +81,56 @@ fn names(rt: HostRuntime) {
     assert!(rt; LabelName::of(b"a/b").is_none());
     assert!(rt; CursorName::of(b"c1").is_some());
     assert!(rt; CursorName::of(b"C1").is_none());
+}
+
+#[test]
+fn spellings(rt: HostRuntime) {
+    assert!(rt; is_canonical(b"<a\\u0020b>", TermKind::Predicate));
+    assert!(rt; !is_canonical(b"<a\\u0041>", TermKind::Node));
+    assert!(rt; !is_canonical(b"<a\\u003e>", TermKind::Node), "lower case");
+    assert!(rt; is_canonical(b"_:b.c", TermKind::Node));
+    assert!(rt; !is_canonical(b"_:b.", TermKind::Node));
+    assert!(rt; is_canonical("\"é\\n\"".as_bytes(), TermKind::Value));
+    assert!(rt; !is_canonical(&[0xFF], TermKind::Node));
+}
+
+/// `<`, so many `x`, `>`.
+fn long_iri(alloc: Global, count: usize) -> Result<Vec<u8>, AllocError>
+    requires { count < 2 ^ 32 }
+{
+    let mut spelling = Vec::from_slice(alloc, b"<")?;
+    spelling.resize(count + 1, b'x')?;
+    spelling.push(b'>')?;
+    Ok(spelling)
+}
+
+fn is_no_spelling(alloc: Global, bytes: &[u8], kind: TermKind) -> bool {
+    matches!(
+        Term::of_spelling(alloc, bytes, kind),
+        Err(TermError::NotCanonical)
+    )
+}
+
+#[test]
+fn terms_of_spellings(rt: HostRuntime) -> Result<(), Fail> {
+    let alloc = rt.alloc();
+    assert!(rt; Term::of_spelling(alloc, b"<a>", TermKind::Node).is_ok());
+    assert!(rt; is_no_spelling(alloc, b"<\\u0061>", TermKind::Node));
+    assert!(rt; is_no_spelling(alloc, b"<a>", TermKind::Value));
+    let written = b"\"a\"^^<http://www.w3.org/2001/XMLSchema#string>";
+    assert!(rt; is_no_spelling(alloc, written, TermKind::Value));
+    let literal = Term::of_spelling(alloc, b"\"a\"@EN", TermKind::Value)?;
+    assert!(rt; literal.copy(alloc)? == literal);
+    Ok(())
+}
+
+#[test]
+fn longest_terms(rt: HostRuntime) -> Result<(), Fail> {
+    let alloc = rt.alloc();
+    let most = long_iri(alloc, 1_048_574)?;
+    assert!(rt; Term::of_spelling(alloc, most.as_slice(), TermKind::Node).is_ok());
+    let more = long_iri(alloc, 1_048_575)?;
+    let refused = Term::of_spelling(alloc, more.as_slice(), TermKind::Node);
+    assert!(rt; matches!(refused, Err(TermError::TooLong)));
+    Ok(())
 }

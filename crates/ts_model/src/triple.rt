@@ -1,7 +1,8 @@
-ghost use Rattle.std.specs.Prelude.{◌≡◌};
+ghost use Rattle.std.specs.Prelude.{◌≡◌, IfOk};
 ghost use Rattle.ts_model.specs.Fact.{HasKinds};
 
 use crate::term::Term;
+use std::alloc::{AllocError, Global};
 use std::cmp::Ordering;
 use std::marker::Model;
 
@@ -55,6 +56,17 @@ impl Triple {
         ensures kinds { HasKinds self.now.subject self.now.predicate self.now.object }
     {
         &self.object
+    }
+
+    /// An equal triple.
+    pub fn copy(&self, alloc: Global) -> Result<Triple, AllocError>
+        ensures { IfOk result (λ triple. triple ≡ self.now) }
+    {
+        Ok(Triple {
+            subject: self.subject.copy(alloc)?,
+            predicate: self.predicate.copy(alloc)?,
+            object: self.object.copy(alloc)?,
+        })
     }
 }
 

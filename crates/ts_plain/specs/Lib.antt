@@ -1,2 +1,6 @@
+pub mod Chain
+pub mod Held
+pub mod History
+pub mod Keys
 pub mod PlainFile
 pub mod PlainRules

@@ -5,8 +5,13 @@
 //! exactly the layer's plain file.
 #![tactic(auto)]
 
+pub use listing::plain_listing;
 pub use write::{PlainLayer, write_plain};
 
+mod births;
+mod chain;
+mod content;
+mod listing;
 #[cfg(test)]
 mod tests;
 mod write;

@@ -1,0 +1,18 @@
+use Rattle.std.proofs.Common.{rules}
+use Rattle.ts_model.specs.Iri.{iri_character}
+use Rattle.ts_model.proofs.PieceLaws.{EndsAt-mark, EndsAt-step, followed}
+use Rattle.ts_model.proofs.IriLaws.{iri_code, length_written}
+use Rattle.ts_model.proofs.TextLaws.{shorter}
+use Rattle.ts_model.proofs.canonical_iri.after_iri_characters.Goals as goal
+
+pub loop-rest-smaller : goal.loop-rest-smaller
+loop-rest-smaller c = shorter _ _ _ (length_written c.in-Some.field-0-0) c.in-Some.ensures.some
+
+pub loop-rest-preserved : goal.loop-rest-preserved
+loop-rest-preserved c = record {
+  is_text = search rules;
+  same_end = λ rest. followed (c.loop-rest.invariant.same_end rest) (EndsAt-step iri_character 0x3E iri_code _ _ rest c.in-Some.field-0-0 c.in-Some.ensures.scalar c.in-Some.ensures.some);
+}
+
+pub returns : goal.returns
+returns c = λ rest. followed (c.loop-rest.invariant.same_end rest) (followed (EndsAt-mark iri_character 0x3E _ rest c.in_default.ensures.none) (c.after_mark.ensures rest))

@@ -1,0 +1,15 @@
+use Rattle.std.proofs.Common.{◌↔◌, ℕ, List, length}
+use denote.Text.{Utf8}
+use denote.Shadow.{shadow}
+use Rattle.ts_model.specs.Iri.{iri_character}
+use Rattle.ts_model.specs.Pieces.{EndsAt}
+use Rattle.ts_model.proofs.canonical_iri.after_iri_characters.Given as goal
+
+abbrev pub invariant-loop-rest : goal.invariant-loop-rest
+invariant-loop-rest l = record {
+  is_text : shadow (Utf8 l.left);
+  same_end : (rest : List ℕ) → EndsAt iri_character 0x3E l.text rest ↔ EndsAt iri_character 0x3E l.left rest;
+}
+
+abbrev pub decreases-loop-rest : goal.decreases-loop-rest
+decreases-loop-rest l = length l.left

@@ -1,0 +1,68 @@
+ghost use Rattle.std.specs.Prelude.{◌≡◌, ◌&&◌, ◌||◌, not, map, IfOk, OnOk};
+ghost use Rattle.std.specs.List.{list_any};
+ghost use Rattle.std.specs.List.Sorted.{IsStrictlySortedBy};
+ghost use Rattle.std.specs.Ordering.{eq_by_cmp};
+ghost use Rattle.ts_model.specs.Fact.{Fact};
+ghost use Rattle.ts_model.specs.Order.{fact_cmp};
+ghost use Rattle.ts_model.specs.Sets.{members};
+ghost use Rattle.ts_plain.specs.Chain.{content_over};
+ghost use Rattle.ts_plain.specs.Held.{holds};
+
+use crate::write::PlainLayer;
+use std::alloc::{AllocError, Global};
+use std::collections::BTreeSet;
+use ts_model::Triple;
+
+/// The triples of the last of these layers, rising, where each layer is the parent of the next.
+pub(crate) fn content<'a>(
+    alloc: Global,
+    chain: &[&'a PlainLayer],
+) -> Result<Vec<&'a Triple>, AllocError>
+    ensures { IfOk result (λ triples.
+        map (λ triple. triple.now) triples.items ≡ members (content_over (map (λ layer. layer.now) chain.now))) }
+{
+    let mut standing = BTreeSet::new(alloc);
+    for layer in chain {
+        apply(&mut standing, *layer)?;
+    }
+    rising(alloc, &standing)
+}
+
+fn apply<'a>(standing: &mut BTreeSet<&'a Triple>, layer: &'a PlainLayer) -> Result<(), AllocError>
+    ensures { OnOk result ((fact : Fact) → holds standing.new fact
+        ≡ ((holds standing.old fact && not (list_any (eq_by_cmp fact_cmp fact) layer.now.removals.items))
+        || list_any (eq_by_cmp fact_cmp fact) layer.now.additions.items)) }
+{
+    remove_all(standing, layer.removals.as_slice());
+    insert_all(standing, layer.additions.as_slice())
+}
+
+fn remove_all<'a>(standing: &mut BTreeSet<&'a Triple>, triples: &'a [Triple])
+    ensures { (fact : Fact) → holds standing.new fact
+        ≡ (holds standing.old fact && not (list_any (eq_by_cmp fact_cmp fact) triples.now)) }
+{
+    for triple in triples {
+        standing.remove(&triple);
+    }
+}
+
+fn insert_all<'a>(
+    standing: &mut BTreeSet<&'a Triple>,
+    triples: &'a [Triple],
+) -> Result<(), AllocError>
+    ensures { OnOk result ((fact : Fact) → holds standing.new fact
+        ≡ (holds standing.old fact || list_any (eq_by_cmp fact_cmp fact) triples.now)) }
+{
+    for triple in triples {
+        standing.insert(triple)?;
+    }
+    Ok(())
+}
+
+fn rising<'a>(alloc: Global, standing: &BTreeSet<&'a Triple>) -> Result<Vec<&'a Triple>, AllocError>
+    ensures items { IfOk result (λ triples.
+        map (λ triple. triple.now) triples.items ≡ map (λ triple. triple.now) standing.now.keys) }
+    ensures rise { IsStrictlySortedBy fact_cmp (map (λ triple. triple.now) standing.now.keys) }
+{
+    standing.iter().copied().collect(alloc)
+}
