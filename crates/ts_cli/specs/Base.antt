@@ -36,22 +36,17 @@ additions_of body = members (added body)
 abbrev pub HasNumbers : List Fact → Type 0
 HasNumbers facts = (term_count facts < 2 ^ 32) × (predicate_count facts < 2 ^ 32)
 
--- a line of the body is at fault
-abbrev pub HasFault : Command → Type 0
-HasFault (command.BadTriple line) = Unit {0}
-HasFault (command.TooLong line) = Unit {0}
-HasFault (command.Base body) = ⊥
-
 -- From this folder the command is answered so, and the folder is then this one.
 abbrev pub Steps : Folder → Command → Answer → Folder → Type 0
 Steps folder asked (Done (Layer number)) after =
     (number ≡ 1) × (IsOccupied folder → ⊥) × (body : List SignedTriple) × (asked ≡ command.Base body) × HasNumbers (additions_of body)
     × (after ≡ replaced folder (layer_name 1) (plain_file 1 None (additions_of body) []))
-Steps folder asked (Refused (refusal.NotBuilt line)) after = (line ≡ 0) × (HasFault asked ⊎ IsOccupied folder) × (after ≡ folder)
+Steps folder asked (Refused (refusal.NotBuilt line)) after =
+    (line ≡ 0) × IsOccupied folder × (body : List SignedTriple) × (asked ≡ command.Base body) × (after ≡ folder)
 Steps folder asked (Refused refusal.Full) after =
     (IsOccupied folder → ⊥) × (body : List SignedTriple) × (asked ≡ command.Base body) × (HasNumbers (additions_of body) → ⊥) × (after ≡ folder)
-Steps folder asked (Refused (refusal.BadTriple line)) after = ⊥
-Steps folder asked (Refused (refusal.TooLong line)) after = ⊥
+Steps folder asked (Refused (refusal.BadTriple line)) after = (asked ≡ command.BadTriple line) × (after ≡ folder)
+Steps folder asked (Refused (refusal.TooLong line)) after = (asked ≡ command.TooLong line) × (after ≡ folder)
 
 -- what a command with a body of these triples is answered in a folder without layers, and what it leaves
 abbrev pub MakesBase : Folder → List SignedTriple → Answer → Folder → Type 0

@@ -56,9 +56,8 @@ fn step<W: Site>(alloc: Global, site: &mut W, command: Command) -> Result<Answer
             }
             make_base(alloc, site, body)
         }
-        Command::BadTriple { line: _ } | Command::TooLong { line: _ } => Ok(Answer::Refused(
-            Refusal::NotBuilt(0),
-        )),
+        Command::BadTriple { line } => Ok(Answer::Refused(Refusal::BadTriple(line))),
+        Command::TooLong { line } => Ok(Answer::Refused(Refusal::TooLong(line))),
     }
 }
 

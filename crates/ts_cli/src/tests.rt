@@ -70,6 +70,146 @@ fn a_triple_stands_once_and_the_triples_rise(rt: HostRuntime) -> Result<(), Fail
     Ok(())
 }
 
+/// Makes a base of an input in an empty folder, and tells the status, what was said and the layer's file.
+fn base_of(alloc: Global, input: &[u8], room: u64) -> Result<(u8, MemorySite), Fail> {
+    let mut site = MemorySite::new(alloc, 20, room)?;
+    let outcome = run_words(alloc, &mut site, &["base"], input)?;
+    Ok((outcome.status, site))
+}
+
+/// Whether a base of this input has this file.
+fn makes(alloc: Global, input: &[u8], wanted: &[u8]) -> Result<bool, Fail> {
+    let (status, site) = base_of(alloc, input, 10_000)?;
+    Ok(
+        status == 0
+            && site.told() == b"layer 00000001\n".as_slice()
+            && file(&site, b"00000001.layer")? == Some(wanted),
+    )
+}
+
+/// Whether a base of this input is refused so, with nothing changed.
+fn refuses(alloc: Global, input: &[u8], wanted: &[u8]) -> Result<bool, Fail> {
+    let (status, site) = base_of(alloc, input, 10_000)?;
+    Ok(
+        status == 1
+            && site.told() == wanted
+            && file(&site, b"00000001.layer")?.is_none()
+            && file(&site, b"new.tmp")?.is_none(),
+    )
+}
+
+#[test]
+fn a_page_with_carriage_returns(rt: HostRuntime) -> Result<(), Fail> {
+    assert!(rt;
+        makes(
+            rt.alloc(),
+            b"# one page\r\n\r\n<http://example.org/cafe> <http://www.w3.org/2000/01/rdf-schema#label> \"Caf\\u00E9 \\\"X\\\"\"@fr .\r\n<http://example.org/cafe> <http://www.w3.org/1999/02/22-rdf-syntax-ns#type> <http://example.org/Cafe> . # kind\r\n<http://example.org/cafe> <http://example.org/seats> \"42\"^^<http://www.w3.org/2001/XMLSchema#integer> .\r\n",
+            b"plain 00000001 none\n+ <http://example.org/cafe> <http://example.org/seats> \"42\"^^<http://www.w3.org/2001/XMLSchema#integer> .\n+ <http://example.org/cafe> <http://www.w3.org/1999/02/22-rdf-syntax-ns#type> <http://example.org/Cafe> .\n+ <http://example.org/cafe> <http://www.w3.org/2000/01/rdf-schema#label> \"Caf\xC3\xA9 \\\"X\\\"\"@fr .\n"
+        )?
+    );
+    Ok(())
+}
+
+#[test]
+fn two_spellings_are_one_term(rt: HostRuntime) -> Result<(), Fail> {
+    let alloc = rt.alloc();
+    assert!(rt;
+        makes(
+            alloc,
+            b"<s> <p> \"1\"^^<http://www.w3.org/2001/XMLSchema#string> .\n<\\u0073> <p> \"1\" .\n",
+            b"plain 00000001 none\n+ <s> <p> \"1\" .\n"
+        )?
+    );
+    assert!(rt;
+        makes(
+            alloc,
+            b"<a\\u0062> <p> _:b.c.\n<a\\u0020b> <p> \"\\U0001F600\\t\" .\n",
+            b"plain 00000001 none\n+ <a\\u0020b> <p> \"\xF0\x9F\x98\x80\t\" .\n+ <ab> <p> _:b.c .\n"
+        )?
+    );
+    Ok(())
+}
+
+#[test]
+fn the_last_line_of_a_triple_decides(rt: HostRuntime) -> Result<(), Fail> {
+    let alloc = rt.alloc();
+    assert!(rt;
+        makes(
+            alloc,
+            b"+ <a> <p> <b> .\n- <a> <p> <b> .\n+ <a> <p> <b> .\n",
+            b"plain 00000001 none\n+ <a> <p> <b> .\n"
+        )?
+    );
+    assert!(rt;
+        makes(
+            alloc,
+            b"<a> <p> <b> .\n- <a> <p> <b> .\n",
+            b"plain 00000001 none\n"
+        )?
+    );
+    assert!(rt; makes(alloc, b"-<a> <p> <b>.", b"plain 00000001 none\n")?);
+    Ok(())
+}
+
+#[test]
+fn the_first_line_at_fault_decides(rt: HostRuntime) -> Result<(), Fail> {
+    let alloc = rt.alloc();
+    assert!(rt;
+        refuses(
+            alloc,
+            b"<a> <p> <b> .\n<a> <p> \"\\uD800\" .\n",
+            b"refused bad-triple 2\n"
+        )?
+    );
+    assert!(rt;
+        refuses(
+            alloc,
+            b"# blank lines and comments count\n\r<a> <p> .\r\n<a> .\n",
+            b"refused bad-triple 3\n"
+        )?
+    );
+    assert!(rt; refuses(alloc, b"<a> <p> <b>", b"refused bad-triple 1\n")?);
+    assert!(rt; refuses(alloc, b"<a> <p> <b\0> .\n", b"refused bad-triple 1\n")?);
+    assert!(rt; refuses(alloc, b"# \xFF\n", b"refused bad-triple 1\n")?);
+    Ok(())
+}
+
+/// A line whose object has this many bytes.
+fn line_of(alloc: Global, object: usize) -> Result<Vec<u8>, Fail> {
+    let mut line = Vec::new(alloc);
+    line.extend_from_slice(b"<a> <p> <")?;
+    let inside = vec![in alloc; b'x'; object.saturating_sub(2)]?;
+    line.extend_from_slice(&inside)?;
+    line.extend_from_slice(b"> .\r")?;
+    Ok(line)
+}
+
+#[test]
+fn an_object_at_its_limit(rt: HostRuntime) -> Result<(), Fail> {
+    let alloc = rt.alloc();
+    let longest = line_of(alloc, 1_048_576)?;
+    let (status, site) = base_of(alloc, &longest, 3_000_000)?;
+    assert_eq!(rt; status, 0);
+    assert_eq!(rt;
+        file(&site, b"00000001.layer")?.map(|bytes| bytes.len()),
+        Some(20 + 2 + 8 + 1_048_576 + 3)
+    );
+    let longer = line_of(alloc, 1_048_577)?;
+    assert!(rt; refuses(alloc, &longer, b"refused too-long 1\n")?);
+    Ok(())
+}
+
+#[test]
+fn a_line_over_its_limit(rt: HostRuntime) -> Result<(), Fail> {
+    let alloc = rt.alloc();
+    let mut input = vec![in alloc; b' '; 4_194_304]?;
+    input.push(b'\n')?;
+    assert!(rt; makes(alloc, &input, b"plain 00000001 none\n")?);
+    input.insert(0, b' ')?;
+    assert!(rt; refuses(alloc, &input, b"refused too-long 1\n")?);
+    Ok(())
+}
+
 /// Whether words are answered as no command.
 fn is_usage(alloc: Global, site: &mut MemorySite, words: &[&str]) -> Result<bool, Fail> {
     let outcome = run_words(alloc, site, words, b"<a> <p> <b> .\n")?;

@@ -1,4 +1,7 @@
-pub mod FirstForm
-pub mod FrontIri
+pub mod Items
 pub mod LineRead
+pub mod Parts
+pub mod Reading
+pub mod Terms
 pub mod TripleLine
+pub mod TripleText

@@ -1,23 +1,50 @@
--- What reading a line answers.
-use Rattle.std.specs.Prelude.{◌≡◌, ℕ, List, Option, None, Some}
-use Rattle.ts_model.specs.declared.signed.Sign.TheVariants.{Add}
+-- What a line spells, and what reading it answers.
+use Rattle.std.specs.Prelude.{◌⊎◌, ℕ, ◌<◌, ◌≤◌, List, [], length, chars, IsUtf8, Option, None, Some}
+use Rattle.ts_model.specs.declared.term.TermKind.{TermKind}
+use Rattle.ts_model.specs.declared.signed.Sign.{Sign}
 use Rattle.ts_model.specs.declared.signed.SignedTriple.{SignedTriple}
 use Rattle.ts_model.specs.Fact.{Fact}
-use Rattle.ts_nt.specs.FirstForm.{IsFirstForm, IsTooLong, IsBad}
+use Rattle.ts_nt.specs.Terms.{TermAt}
+use Rattle.ts_nt.specs.TripleText.{IsTripleText, IsNothingOrComment, after_blanks}
 use Rattle.ts_nt.specs.declared.read.LineError.{LineError}
 use Rattle.ts_nt.specs.declared.read.LineError.TheVariants.{TooLong, Bad, Memory}
 
--- the triple that the line spells, to be added
-abbrev pub IsReadAs : List ℕ → SignedTriple → Type 0
-IsReadAs line signed = (signed.sign ≡ Add) × IsFirstForm line signed.triple
+-- the line is a line of this triple with this sign
+abbrev pub Spells : List ℕ → Sign → Fact → Type 0
+Spells line sign fact = IsUtf8 line × IsTripleText (chars line) sign fact
 
--- the three causes exclude each other: memory is asked for a line of the first form alone
+-- the line is blank or a comment
+abbrev pub IsSilent : List ℕ → Type 0
+IsSilent line = IsUtf8 line × IsNothingOrComment (after_blanks (chars line))
+
+-- no term has more than 1,048,576 bytes
+abbrev pub IsWithinLimits : Fact → Type 0
+IsWithinLimits fact =
+    (length fact.subject.spelling ≤ 1048576) × (length fact.predicate.spelling ≤ 1048576) × (length fact.object.spelling ≤ 1048576)
+
+-- the line and its terms are within their limits, and it is a line of this triple
+abbrev pub IsReadAs : List ℕ → SignedTriple → Type 0
+IsReadAs line signed = (length line ≤ 4194304) × Spells line signed.sign signed.triple × IsWithinLimits signed.triple
+
+-- the line is over its limit, or is a line of a triple with a term over its own
+abbrev pub IsTooLong : List ℕ → Type 0
+IsTooLong line = (4194304 < length line) ⊎ ((sign : Sign) × (fact : Fact) × Spells line sign fact × (IsWithinLimits fact → ⊥))
+
+-- the line is within its limit, and neither blank, a comment nor a line of a triple
+abbrev pub IsBad : List ℕ → Type 0
+IsBad line = (length line ≤ 4194304) × (IsSilent line → ⊥) × ((sign : Sign) (fact : Fact) → Spells line sign fact → ⊥)
+
+-- the causes exclude each other, but for memory, which may run out at any line
 abbrev pub IsRefusedFor : List ℕ → LineError → Type 0
 IsRefusedFor line TooLong = IsTooLong line
 IsRefusedFor line Bad = IsBad line
-IsRefusedFor line Memory = (fact : Fact) × IsFirstForm line fact
+IsRefusedFor line Memory = Unit {0}
 
 -- the line is read as nothing, or as a triple
 abbrev pub Answers : List ℕ → Option SignedTriple → Type 0
-Answers line None = ⊥
+Answers line None = (length line ≤ 4194304) × IsSilent line
 Answers line (Some signed) = IsReadAs line signed
+
+-- the whole of the bytes spells this term
+abbrev pub SpellsTerm : List ℕ → TermKind → List ℕ → Type 0
+SpellsTerm bytes kind spelling = IsUtf8 bytes × TermAt kind (chars bytes) spelling []

@@ -1,18 +1,22 @@
 //! Lines of triples, in this project's profile of RDF 1.1 N-Triples.
 //!
-//! [`read_line`] gives the triple of a line, with [`LineError`] where there is none: so far of a line of the first form,
-//! which is three IRIs of printable ASCII and a dot, with spaces before, between and after them. [`write_triple`] appends
-//! the line of a triple.
+//! [`read_line`] gives the triple of a line with its sign, nothing of a blank line or a comment, and [`LineError`] where
+//! the line is neither. [`read_term`] gives the term that bytes spell. [`write_triple`] appends the line of a triple.
 //!
 //! The layer above uses that an answer is the one triple that the line spells, that each error has the cause that its
-//! doc names, and that what is written is exactly the triple's line.
+//! doc names, and that what is written is exactly the triple's line, which reads back as that triple.
 #![tactic(auto)]
 
-pub use read::{LineError, read_line};
-pub use write::write_triple;
+pub use read::{LineError, one_reading, read_line, read_term};
+pub use write::{printed_triple_reads_back, write_triple};
 
+mod front;
+mod items;
+mod line;
+mod marked;
+mod quoted;
 mod read;
-mod split;
+mod term;
 #[cfg(test)]
 mod tests;
 mod write;

@@ -1,9 +1,15 @@
-ghost use Rattle.std.specs.Prelude.{◌≡◌, ◌≢◌, ◌≤◌, length, IfOk, IfErr};
-ghost use Rattle.ts_nt.specs.FirstForm.{IsPlainIri, fact_of};
-ghost use Rattle.ts_nt.specs.LineRead.{Answers, IsRefusedFor};
+ghost use Rattle.std.specs.Prelude.{◌≡◌, ◌≢◌, ◌≤◌, length, IfOk, IfErr, IfSome, IfNone, ℕ, List};
+ghost use Rattle.ts_model.specs.declared.signed.Sign.{Sign};
+ghost use Rattle.ts_model.specs.Canonical.{IsCanonical};
+ghost use Rattle.ts_nt.specs.Parts.{triple_of as triple_fact};
+ghost use Rattle.ts_model.specs.Fact.{Fact};
+ghost use Rattle.ts_nt.specs.LineRead.{Answers, IsRefusedFor, IsSilent, IsWithinLimits, Spells, SpellsTerm};
 
-use crate::split::{Parts, split_line};
+use crate::front::after_blanks;
+use crate::line::{Parts, is_nothing_or_comment, read_parts};
+use crate::term::read_term_at;
 use std::alloc::{AllocError, Global};
+use std::str;
 use thiserror::Error;
 use ts_model::{Sign, SignedTriple, Term, TermKind, Triple};
 
@@ -19,14 +25,14 @@ pub enum LineError {
     /// More than 4,194,304 bytes, or a line of a triple with a term of more than 1,048,576 bytes.
     #[error("the line or one of its terms is too long")]
     TooLong,
-    /// Within the limit, and no line of a triple.
+    /// Within the limit, and neither blank, a comment nor a line of a triple.
     #[error("the line is no triple")]
     Bad,
     #[error("out of memory")]
     Memory,
 }
 
-/// The triple of a line of the first form: three IRIs and a dot, with spaces before, between and after them.
+/// The triple of a line with its sign; `None` where the line is blank or a comment.
 pub fn read_line(alloc: Global, line: &[u8]) -> Result<Option<SignedTriple>, LineError>
     ensures ok { IfOk result (Answers line.now) }
     ensures err { IfErr result (IsRefusedFor line.now) }
@@ -34,48 +40,76 @@ pub fn read_line(alloc: Global, line: &[u8]) -> Result<Option<SignedTriple>, Lin
     if line.len() > LINE_LIMIT {
         return Err(LineError::TooLong);
     }
-    let Some(parts) = split_line(line) else {
+    let Ok(text) = str::from_utf8(line) else {
         return Err(LineError::Bad);
     };
+    if is_nothing_or_comment(after_blanks(text)) {
+        return Ok(None);
+    }
+    match read_parts(alloc, text) {
+        Ok(Some(parts)) => match triple_of(parts) {
+            Some(signed) => Ok(Some(signed)),
+            None => Err(LineError::TooLong),
+        },
+        Ok(None) => Err(LineError::Bad),
+        Err(AllocError) => Err(LineError::Memory),
+    }
+}
+
+/// The triple of parts, and `None` exactly where a term has more than 1,048,576 bytes.
+fn triple_of(parts: Parts) -> Option<SignedTriple>
+    requires subject { IsCanonical TermKind.Node parts.subject.items }
+    requires predicate { IsCanonical TermKind.Predicate parts.predicate.items }
+    requires object { IsCanonical parts.object_kind parts.object.items }
+    requires kind { parts.object_kind ≢ TermKind.Predicate }
+    ensures some { IfSome result (λ signed. (signed ≡ record { sign = parts.sign; triple = triple_fact parts.object_kind parts.subject.items parts.predicate.items parts.object.items }) × IsWithinLimits signed.triple) }
+    ensures none { IfNone result (IsWithinLimits (triple_fact parts.object_kind parts.subject.items parts.predicate.items parts.object.items) → ⊥) }
+{
     let longest = parts
         .subject
         .len()
         .max(parts.predicate.len())
         .max(parts.object.len());
     if longest > TERM_LIMIT {
-        return Err(LineError::TooLong);
+        return None;
     }
-    match triple_of(alloc, parts) {
-        Ok(triple) => Ok(Some(SignedTriple {
-            sign: Sign::Add,
-            triple,
-        })),
-        Err(AllocError) => Err(LineError::Memory),
-    }
+    let triple = Triple::of(
+        Term::of_canonical(parts.subject, TermKind::Node),
+        Term::of_canonical(parts.predicate, TermKind::Predicate),
+        Term::of_canonical(parts.object, parts.object_kind),
+    );
+    Some(SignedTriple {
+        sign: parts.sign,
+        triple,
+    })
 }
 
-/// The triple of three IRIs.
-fn triple_of(alloc: Global, parts: Parts<'_>) -> Result<Triple, AllocError>
-    requires iris { IsPlainIri parts.subject.now × IsPlainIri parts.predicate.now × IsPlainIri parts.object.now }
-    requires within { (length parts.subject.now ≤ 1048576)
-        × (length parts.predicate.now ≤ 1048576)
-        × (length parts.object.now ≤ 1048576) }
-    ensures { IfOk result (λ fact.
-        fact ≡ fact_of parts.entry.subject.now parts.entry.predicate.now parts.entry.object.now) }
+/// The term of a kind that the whole of the bytes spells, in any of its spellings, within the limit of a term. `None`
+/// exactly where they spell none.
+pub fn read_term(alloc: Global, bytes: &[u8], kind: TermKind) -> Result<Option<Term>, AllocError>
+    ensures some { IfOk result (λ term. IfSome term (λ term. (term.kind ≡ kind) × SpellsTerm bytes.now kind term.spelling)) }
+    ensures none { IfOk result (λ term. IfNone term ((spelling : List ℕ) → SpellsTerm bytes.now kind spelling → length spelling ≤ 1048576 → ⊥)) }
 {
-    let subject = copied(alloc, parts.subject, TermKind::Node)?;
-    let predicate = copied(alloc, parts.predicate, TermKind::Predicate)?;
-    let object = copied(alloc, parts.object, TermKind::Node)?;
-    Ok(Triple::of(subject, predicate, object))
+    let Ok(text) = str::from_utf8(bytes) else {
+        return Ok(None);
+    };
+    let Some((spelling, rest)) = read_term_at(alloc, text, kind)? else {
+        return Ok(None);
+    };
+    if !rest.is_empty() {
+        return Ok(None);
+    }
+    if spelling.len() > TERM_LIMIT {
+        return Ok(None);
+    }
+    Ok(Some(Term::of_canonical(spelling, kind)))
 }
 
-/// The term of an IRI.
-fn copied(alloc: Global, iri: &[u8], kind: TermKind) -> Result<Term, AllocError>
-    requires iri { IsPlainIri iri.now }
-    requires within { length iri.now ≤ 1048576 }
-    requires kind { kind ≢ TermKind.Value }
-    ensures { IfOk result (λ term. term ≡ record { kind = kind; spelling = iri.now }) }
-{
-    let spelling = Vec::from_slice(alloc, iri)?;
-    Ok(Term::of_canonical(spelling, kind))
-}
+/// A line is a line of one triple with one sign, or of none; a blank line or a comment is a line of none. Bytes spell one
+/// term of a kind, in its canonical spelling, or none.
+pub fn one_reading()
+    ensures once { (line : List ℕ) (a b : Sign) (f g : Fact) → Spells line a f → Spells line b g → (a ≡ b) × (f ≡ g) }
+    ensures silent { (line : List ℕ) (sign : Sign) (fact : Fact) → IsSilent line → Spells line sign fact → ⊥ }
+    ensures term { (bytes : List ℕ) (kind : TermKind) (a b : List ℕ) → SpellsTerm bytes kind a → SpellsTerm bytes kind b → a ≡ b }
+    ensures canonical { (bytes spelling : List ℕ) (kind : TermKind) → SpellsTerm bytes kind spelling → IsCanonical kind spelling }
+{}

@@ -1,31 +1,374 @@
-use crate::{LineError, read_line, write_triple};
+use crate::{LineError, read_line, read_term, write_triple};
+use std::alloc::{AllocError, Global};
 use std::test::Fail;
+use ts_model::{Sign, TermKind};
 
-fn error_of(rt: &HostRuntime, line: &[u8]) -> Option<LineError> {
-    read_line(rt.alloc(), line).err()
+/// The sign and the printed line of what a line is read as, or what else becomes of it.
+fn shown(alloc: Global, line: &[u8]) -> Result<Vec<u8>, Fail> {
+    let mut seen = Vec::new(alloc);
+    match read_line(alloc, line) {
+        Ok(Some(signed)) => {
+            seen.push(match signed.sign {
+                Sign::Add => b'+',
+                Sign::Remove => b'-',
+            })?;
+            write_triple(&signed.triple, &mut seen)?;
+        }
+        Ok(None) => seen.extend_from_slice(b"nothing")?,
+        Err(LineError::Bad) => seen.extend_from_slice(b"bad")?,
+        Err(LineError::TooLong) => seen.extend_from_slice(b"too long")?,
+        Err(LineError::Memory) => Err("out of memory")?,
+    }
+    Ok(seen)
 }
 
+/// Lines, and what is shown of each, by the grammar of RDF 1.1 N-Triples and this project's signs.
+const LINES: &[(&str, &str)] = &[
+    // signs and blanks
+    ("<a><p><b>.", "+<a> <p> <b> .\n"),
+    ("+<a> <p> <b> .", "+<a> <p> <b> .\n"),
+    ("  -  <a><p><b>.", "-<a> <p> <b> .\n"),
+    ("\t-\t<a>\t<p>\t<b>\t.\t", "-<a> <p> <b> .\n"),
+    ("+-<a> <p> <b> .", "bad"),
+    ("- - <a> <p> <b> .", "bad"),
+    ("+", "bad"),
+    (" - # x", "bad"),
+    // nothing
+    ("", "nothing"),
+    (" \t ", "nothing"),
+    ("#", "nothing"),
+    ("\t # <a> <p> <b> .", "nothing"),
+    // ends
+    ("<a> <p> <b> . # x", "+<a> <p> <b> .\n"),
+    ("<a> <p> <b> .#", "+<a> <p> <b> .\n"),
+    ("<a> <p> <b> . x", "bad"),
+    ("<a> <p> <b> ..", "bad"),
+    ("<a> <p> <b>", "bad"),
+    ("<a> <p> <b> # .", "bad"),
+    ("<a> <p> <b> <c> .", "bad"),
+    ("<a> <b> .", "bad"),
+    ("<a>", "bad"),
+    ("\u{A0}<a> <p> <b> .", "bad"),
+    // what stands where
+    ("\"a\" <p> <b> .", "bad"),
+    ("<a> _:p <b> .", "bad"),
+    ("<a> \"p\" <b> .", "bad"),
+    // labels
+    ("_:b <p> _:b.c.", "+_:b <p> _:b.c .\n"),
+    ("<a> <p> _:b.c", "bad"),
+    ("_:b.c. <p> <b> .", "bad"),
+    ("<a> <p> _:b..", "bad"),
+    ("<a> <p> _:b..c-.", "+<a> <p> _:b..c- .\n"),
+    ("_:0<p>_::_.", "+_:0 <p> _::_ .\n"),
+    ("_: <p> <b> .", "bad"),
+    ("_:.b <p> <b> .", "bad"),
+    ("_:-b <p> <b> .", "bad"),
+    ("_b <p> <b> .", "bad"),
+    // IRIs
+    ("<> <> <> .", "+<> <> <> .\n"),
+    ("<\\u0061> <p\\U00000062> <b> .", "+<a> <pb> <b> .\n"),
+    (
+        "<a\\u0020b> <p\\u003e> <\\u0000> .",
+        "+<a\\u0020b> <p\\u003E> <\\u0000> .\n",
+    ),
+    (
+        "<a\\u007f\\u00a0> <p> <b> .",
+        "+<a\u{7F}\u{A0}> <p> <b> .\n",
+    ),
+    ("<a b> <p> <b> .", "bad"),
+    ("<a\\tb> <p> <b> .", "bad"),
+    ("<a\"b> <p> <b> .", "bad"),
+    ("<a\u{0}> <p> <b> .", "bad"),
+    ("<a\\uD800> <p> <b> .", "bad"),
+    ("<a> <p> <b .", "bad"),
+    // strings
+    ("<a> <p> \"\".", "+<a> <p> \"\" .\n"),
+    ("<a> <p> \"a\tb'\u{0}\".", "+<a> <p> \"a\tb'\u{0}\" .\n"),
+    (
+        "<a> <p> \"\\t\\b\\n\\r\\f\\\"\\'\\\\\" .",
+        "+<a> <p> \"\t\u{8}\\n\\r\u{C}\\\"'\\\\\" .\n",
+    ),
+    (
+        "<a> <p> \"\\u0041\\U0001f600\\u00E9\\u000A\\u000d\\u0022\\u005C\" .",
+        "+<a> <p> \"A😀é\\n\\r\\\"\\\\\" .\n",
+    ),
+    (
+        "<a> <p> \"\\uD7FF\\uE000\\U0010FFFF\" .",
+        "+<a> <p> \"\u{D7FF}\u{E000}\u{10FFFF}\" .\n",
+    ),
+    ("<a> <p> \"\\uD800\" .", "bad"),
+    ("<a> <p> \"\\uDFFF\" .", "bad"),
+    ("<a> <p> \"\\U00110000\" .", "bad"),
+    ("<a> <p> \"\\U0000004\" .", "bad"),
+    ("<a> <p> \"\\u004g\" .", "bad"),
+    ("<a> <p> \"\\a\" .", "bad"),
+    ("<a> <p> \"a\nb\" .", "bad"),
+    ("<a> <p> \"a\rb\" .", "bad"),
+    ("<a> <p> \"a .", "bad"),
+    ("<a> <p> \"a\"b .", "bad"),
+    // language tags
+    ("<a> <p> \"a\"@en-US .", "+<a> <p> \"a\"@en-US .\n"),
+    ("<a> <p> \"a\"@EN.", "+<a> <p> \"a\"@EN .\n"),
+    ("<a> <p> \"a\"@en-1a-2.", "+<a> <p> \"a\"@en-1a-2 .\n"),
+    ("<a> <p> \"a\"@en-.", "bad"),
+    ("<a> <p> \"a\"@e1 .", "bad"),
+    ("<a> <p> \"a\"@ .", "bad"),
+    ("<a> <p> \"a\" @en .", "bad"),
+    ("<a> <p> \"a\"@en^^<t> .", "bad"),
+    // types
+    ("<a> <p> \"1\"^^<t>.", "+<a> <p> \"1\"^^<t> .\n"),
+    (
+        "<a> <p> \"1\"^^<http://www.w3.org/2001/XMLSchema#string> .",
+        "+<a> <p> \"1\" .\n",
+    ),
+    (
+        "<a> <p> \"1\"^^<http://www.w3.org/2001/XMLSchema#\\u0073tring> .",
+        "+<a> <p> \"1\" .\n",
+    ),
+    (
+        "<a> <p> \"1\"^^<http://www.w3.org/2001/XMLSchema#strings> .",
+        "+<a> <p> \"1\"^^<http://www.w3.org/2001/XMLSchema#strings> .\n",
+    ),
+    ("<a> <p> \"a\"^^ <t> .", "bad"),
+    ("<a> <p> \"a\" ^^<t> .", "bad"),
+    ("<a> <p> \"a\"^<t> .", "bad"),
+    ("<a> <p> \"a\"^^ .", "bad"),
+    ("<a> <p> \"a\"^^_:t .", "bad"),
+    ("<a> <p> \"a\"^^\"t\" .", "bad"),
+    // characters past ASCII
+    ("<é> <😀> \"é😀\".", "+<é> <😀> \"é😀\" .\n"),
+    ("_:é <p> _:😀 .", "+_:é <p> _:😀 .\n"),
+    ("_:× <p> <b> .", "bad"),
+    // more of each
+    ("<a> <p> <b> .", "+<a> <p> <b> .\n"),
+    ("-<a> <p> <b> .", "-<a> <p> <b> .\n"),
+    ("  -  <a><p><b>.  ", "-<a> <p> <b> .\n"),
+    ("   +   <a>   <p>   <b>   .  ", "+<a> <p> <b> .\n"),
+    ("- + <a> <p> <b> .", "bad"),
+    ("--<a> <p> <b> .", "bad"),
+    (" - ", "bad"),
+    ("+ # x", "bad"),
+    ("+.", "bad"),
+    ("   ", "nothing"),
+    ("# x", "nothing"),
+    ("   # <a> <p> <b> .", "nothing"),
+    ("#<a> <p> <b> .", "nothing"),
+    ("<a> <p> <b> .<c>", "bad"),
+    ("<a> <p> # <b> .", "bad"),
+    ("<a> <p> .", "bad"),
+    ("<a> .", "bad"),
+    (".", "bad"),
+    ("x", "bad"),
+    ("a p b .", "bad"),
+    ("_:b.c <p> _:b .", "+_:b.c <p> _:b .\n"),
+    ("_:b<p>_:b...", "bad"),
+    ("_:b <p> _:b.c", "bad"),
+    ("_:b. <p> <b> .", "bad"),
+    ("_:b..c <p> <b> .", "+_:b..c <p> <b> .\n"),
+    ("_:1 <p> _:b-.", "+_:1 <p> _:b- .\n"),
+    ("_ :b <p> <b> .", "bad"),
+    ("_:_a:b <p> _:: .", "+_:_a:b <p> _:: .\n"),
+    ("_:é <p> _:😀.", "+_:é <p> _:😀 .\n"),
+    ("_:a·‿ <p> <b> .", "+_:a·‿ <p> <b> .\n"),
+    ("_:· <p> <b> .", "bad"),
+    ("_:a× <p> <b> .", "bad"),
+    ("_:a\\u0062 <p> <b> .", "bad"),
+    ("<a> <p> \"b\" .", "+<a> <p> \"b\" .\n"),
+    (
+        "<a> <p> \"it's é 😀 {<>}\"  .",
+        "+<a> <p> \"it's é 😀 {<>}\" .\n",
+    ),
+    (
+        "<a> <p> \"\\n\\r\\\"\\'\\\\\" .",
+        "+<a> <p> \"\\n\\r\\\"'\\\\\" .\n",
+    ),
+    (
+        "<a> <p> \"\\u0041\\U00000062\\u00e9\\u00E9\\U0001F600\\U0001f600\" .",
+        "+<a> <p> \"Abéé😀😀\" .\n",
+    ),
+    (
+        "<a> <p> \"\\u000A\\u000d\\u0022\\u005C\\u005c\" .",
+        "+<a> <p> \"\\n\\r\\\"\\\\\\\\\" .\n",
+    ),
+    ("<a> <p> \"\\u00411\" .", "+<a> <p> \"A1\" .\n"),
+    ("<a> <p> \"\\\" .", "bad"),
+    ("<a> <p> \"\\\\\" .", "+<a> <p> \"\\\\\" .\n"),
+    ("<a> <p> \"\\x\" .", "bad"),
+    ("<a> <p> \"\\N\" .", "bad"),
+    ("<a> <p> \"\\u00\" .", "bad"),
+    ("<a> <p> \"\\u00g1\" .", "bad"),
+    ("<a> <p> \"\\U0041\" .", "bad"),
+    ("<a> <p> \"\\ud83d\\ude00\" .", "bad"),
+    ("<a> <p> \"\\U10000041\" .", "bad"),
+    ("<a> <p> \"a", "bad"),
+    ("<a> <p> \"a\"b\" .", "bad"),
+    ("<a> <p> 'a' .", "bad"),
+    ("<a> <p> \"\"\"a\"\"\" .", "bad"),
+    ("<a> <p> 1 .", "bad"),
+    ("<a> <p> \"a\"@de-CH-1996.", "+<a> <p> \"a\"@de-CH-1996 .\n"),
+    ("<a> <p> \"a\"@en--US .", "bad"),
+    ("<a> <p> \"a\"@1 .", "bad"),
+    ("<a> <p> \"a\"@en1 .", "bad"),
+    ("<a> <p> \"a\"@en_US .", "bad"),
+    ("<a> <p> \"a\"@en@fr .", "bad"),
+    ("<a> <p> \"a\"@é .", "bad"),
+    (
+        "<a> <p> \"1\"^^<\\u0068ttp://www.w3.org/2001/XMLSchema#str\\U00000069ng>.",
+        "+<a> <p> \"1\" .\n",
+    ),
+    (
+        "<a> <p> \"1\"^^<http://www.w3.org/2001/XMLSchema#String> .",
+        "+<a> <p> \"1\"^^<http://www.w3.org/2001/XMLSchema#String> .\n",
+    ),
+    (
+        "<a> <p> \"1\"^^<http://www.w3.org/2001/XMLSchema#integer> .",
+        "+<a> <p> \"1\"^^<http://www.w3.org/2001/XMLSchema#integer> .\n",
+    ),
+    (
+        "<a> <p> \"a\"^^<\\u0061\\u0020> .",
+        "+<a> <p> \"a\"^^<a\\u0020> .\n",
+    ),
+    ("<a> <p> \"a\"^^<t>@en .", "bad"),
+    ("<é😀> <p> <%41> .", "+<é😀> <p> <%41> .\n"),
+    (
+        "<\\u0061> <\\u0041> <\\U0001F600\\u00e9> .",
+        "+<a> <A> <😀é> .\n",
+    ),
+    (
+        "<a\\u0020b> <p> <\\u003e\\u003C\\u0022> .",
+        "+<a\\u0020b> <p> <\\u003E\\u003C\\u0022> .\n",
+    ),
+    (
+        "<a> <p> <\\U0000007b\\u005c\\u0000\\u005E\\u0060> .",
+        "+<a> <p> <\\u007B\\u005C\\u0000\\u005E\\u0060> .\n",
+    ),
+    ("<a> <p> <\\n> .", "bad"),
+    ("<a> <p> <\\\\> .", "bad"),
+    ("<a> <p> <\\uD800> .", "bad"),
+    ("<a> <p> <\\U00110000> .", "bad"),
+    ("<a> <p> <\\u004> .", "bad"),
+    ("<a<b> <p> <b> .", "bad"),
+    ("<a{b> <p> <b> .", "bad"),
+    ("<a}b> <p> <b> .", "bad"),
+    ("<a|b> <p> <b> .", "bad"),
+    ("<a^b> <p> <b> .", "bad"),
+    ("<a`b> <p> <b> .", "bad"),
+    ("<a <p> <b> .", "bad"),
+    ("a> <p> <b> .", "bad"),
+    ("<a> <p> _:b .", "+<a> <p> _:b .\n"),
+    ("<a> <p> <b> .\r", "bad"),
+    ("<a> <p> <b> .\n", "bad"),
+    ("\n", "bad"),
+    (
+        "<a> <p> \"\\u0000\\u0009\\u007F\" .",
+        "+<a> <p> \"\u{0}\t\u{7F}\" .\n",
+    ),
+    ("<a> <p> <\u{7F}> .", "+<a> <p> <\u{7F}> .\n"),
+    ("\u{FEFF}<a> <p> <b> .", "bad"),
+];
+
 #[test]
-fn a_line_reads_and_prints_with_one_space(rt: HostRuntime) -> Result<(), Fail> {
-    let alloc = rt.alloc();
-    let mut printed = Vec::new(alloc);
-    for line in [b"<a><p><b>.".as_slice(), b"  <a> <p>  <b>  .  ".as_slice()] {
-        let signed = read_line(alloc, line)?.ok_or("no triple")?;
-        write_triple(&signed.triple, &mut printed)?;
+fn lines_of_text(rt: HostRuntime) -> Result<(), Fail> {
+    for (line, want) in LINES {
+        let seen = shown(rt.alloc(), line.as_bytes())?;
+        assert_eq!(rt; seen.as_slice(), want.as_bytes(), "at {line}");
     }
-    assert_eq!(rt;
-        printed.as_slice(),
-        b"<a> <p> <b> .\n<a> <p> <b> .\n".as_slice()
-    );
     Ok(())
 }
 
 #[test]
-fn other_lines_are_bad(rt: HostRuntime) {
-    assert!(rt; matches!(error_of(&rt, b""), Some(LineError::Bad)));
-    assert!(rt; matches!(error_of(&rt, b"<a> <p> ."), Some(LineError::Bad)));
-    assert!(rt; matches!(error_of(&rt, b"<a> <p> <b>"), Some(LineError::Bad)));
-    assert!(rt; matches!(error_of(&rt, b"<a> <p> <b> . x"), Some(LineError::Bad)));
-    assert!(rt; matches!(error_of(&rt, b"<a b> <p> <b> ."), Some(LineError::Bad)));
-    assert!(rt; matches!(error_of(&rt, b"<a> <p> \"b\" ."), Some(LineError::Bad)));
+fn bytes_that_are_no_text_are_bad(rt: HostRuntime) -> Result<(), Fail> {
+    let lines = [
+        b"\xff".as_slice(),
+        b" \xff",
+        b"# \xff",
+        b"<a> <p> <b> . # \xc3",
+        b"<a> <p> \"\xed\xa0\x80\" .",
+        b"<a> <p> \"\xc0\xaf\" .",
+    ];
+    for line in lines {
+        let seen = shown(rt.alloc(), line)?;
+        assert_eq!(rt; seen.as_slice(), b"bad".as_slice());
+    }
+    Ok(())
+}
+
+/// `<`, so many letters, `>`, and the rest of a line.
+fn long_line(alloc: Global, letters: usize, rest: &[u8]) -> Result<Vec<u8>, AllocError> {
+    let mut line = Vec::new(alloc);
+    line.push(b'<')?;
+    line.resize(letters, b'a')?;
+    line.extend_from_slice(rest)?;
+    Ok(line)
+}
+
+#[test]
+fn limits(rt: HostRuntime) -> Result<(), Fail> {
+    let alloc = rt.alloc();
+    let comment = vec![in alloc; b'#'; 4_194_304]?;
+    assert_eq!(rt;
+        shown(alloc, comment.as_slice())?.as_slice(),
+        b"nothing".as_slice()
+    );
+    let comment = vec![in alloc; b'#'; 4_194_305]?;
+    assert_eq!(rt;
+        shown(alloc, comment.as_slice())?.as_slice(),
+        b"too long".as_slice()
+    );
+    let noise = vec![in alloc; 0xff; 4_194_305]?;
+    assert_eq!(rt;
+        shown(alloc, noise.as_slice())?.as_slice(),
+        b"too long".as_slice()
+    );
+
+    // a term of 1,048,576 bytes, of one more, and of one more in a line with another fault
+    let line = long_line(alloc, 1_048_575, b"> <p> <b> .")?;
+    assert_eq!(rt; shown(alloc, line.as_slice())?.len(), 1_048_576 + 12);
+    let line = long_line(alloc, 1_048_576, b"> <p> <b> .")?;
+    assert_eq!(rt;
+        shown(alloc, line.as_slice())?.as_slice(),
+        b"too long".as_slice()
+    );
+    let line = long_line(alloc, 1_048_576, b"> <p> <b>")?;
+    assert_eq!(rt;
+        shown(alloc, line.as_slice())?.as_slice(),
+        b"bad".as_slice()
+    );
+    Ok(())
+}
+
+/// The spelling of the term that bytes spell, or nothing.
+fn term(alloc: Global, bytes: &[u8], kind: TermKind) -> Result<Vec<u8>, Fail> {
+    match read_term(alloc, bytes, kind)? {
+        Some(term) => Ok(Vec::from_slice(alloc, term.spelling())?),
+        None => Ok(Vec::from_slice(alloc, b"none")?),
+    }
+}
+
+#[test]
+fn terms_of_each_kind(rt: HostRuntime) -> Result<(), Fail> {
+    let cases = [
+        ("<\\u0061>", TermKind::Node, "<a>"),
+        ("_:b", TermKind::Node, "_:b"),
+        ("_:b.", TermKind::Node, "none"),
+        ("\"a\"", TermKind::Node, "none"),
+        ("<\\u0061>", TermKind::Predicate, "<a>"),
+        ("_:b", TermKind::Predicate, "none"),
+        ("\"\\u0061\"@en", TermKind::Value, "\"a\"@en"),
+        ("\"a\"@en-", TermKind::Value, "none"),
+        ("<a>", TermKind::Value, "none"),
+        (" <a>", TermKind::Node, "none"),
+        ("<a> ", TermKind::Node, "none"),
+        ("", TermKind::Value, "none"),
+    ];
+    for (bytes, kind, want) in cases {
+        let seen = term(rt.alloc(), bytes.as_bytes(), kind)?;
+        assert_eq!(rt; seen.as_slice(), want.as_bytes(), "at {bytes}");
+    }
+    let noise = term(rt.alloc(), b"\"\xff\"", TermKind::Value)?;
+    assert_eq!(rt; noise.as_slice(), b"none".as_slice());
+    let long = long_line(rt.alloc(), 1_048_576, b">")?;
+    let seen = term(rt.alloc(), long.as_slice(), TermKind::Node)?;
+    assert_eq!(rt; seen.as_slice(), b"none".as_slice());
+    Ok(())
 }

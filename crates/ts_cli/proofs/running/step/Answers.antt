@@ -1,4 +1,4 @@
-use Rattle.std.proofs.Common.{◌∙◌, refl, inr}
+use Rattle.std.proofs.Common.{◌∙◌, refl}
 use Rattle.ts_cli.proofs.FolderLemmas.{is_free, is_taken, base_does}
 use Rattle.ts_cli.proofs.running.step.Goals as goal
 
@@ -8,7 +8,9 @@ returns-then-is_occupied-clause-folder g c =
       c.in_ok-folder.ensures.folder.0,
       λ told. (
         refl,
-        inr (is_taken (g.W.Disk.now c.args.site.now) found.layers.items found.rollups.items found.labels.items (c.in_ok-folder.ensures.folder.1 told).1 (c.is_occupied.ensures.some c.if-is_occupied.true)),
+        is_taken (g.W.Disk.now c.args.site.now) found.layers.items found.rollups.items found.labels.items (c.in_ok-folder.ensures.folder.1 told).1 (c.is_occupied.ensures.some c.if-is_occupied.true),
+        c.in-Base.body,
+        c.in-Base.is,
         (c.in_ok-folder.ensures.folder.1 told).0,
       ),
     )

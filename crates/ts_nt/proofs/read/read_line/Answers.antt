@@ -1,16 +1,34 @@
-use Rattle.std.proofs.Common.{refl, inr, arith}
-use Rattle.ts_nt.specs.FirstForm.{fact_of}
+use Rattle.std.proofs.Common.{rules, ◌≡◌, chars, ap, ◌∙◌, sym, subst, true≢false, arith}
+use Rattle.ts_nt.specs.Parts.{triple_of, IsNoTriple}
+use Rattle.ts_nt.specs.TripleText.{after_blanks, IsNothingOrComment, IsTripleText}
+use Rattle.ts_nt.proofs.LineLaws.{line_canonical}
 use Rattle.ts_nt.proofs.read.read_line.Goals as goal
 
-pub returns-in_default-clause-err : goal.returns-in_default-clause-err
-returns-in_default-clause-err c = (omega (arith, c.if-line-gt-LINE_LIMIT.false), λ fact s. c.in_default.ensures.none _ _ _ s.0)
+pub triple_of-requires-clause-subject : goal.triple_of-requires-clause-subject
+triple_of-requires-clause-subject c =
+    let parts = c.in-Ok-Some.parts in
+    let reads : IsTripleText (chars c.in-Ok.text.now) parts.sign (triple_of parts.object_kind parts.subject.items parts.predicate.items parts.object.items) = search (rules) in
+    (line_canonical c.args.line.now c.in-Ok.text.now _ _ c.in-Ok.ensures.cases.0 c.in-Ok.ensures.cases.1 reads).0
 
-pub returns-then-longest-gt-TERM_LIMIT-clause-err : goal.returns-then-longest-gt-TERM_LIMIT-clause-err
-returns-then-longest-gt-TERM_LIMIT-clause-err c =
-    let parts = c.in-Some.parts in
-    inr (fact_of parts.subject.now parts.predicate.now parts.object.now, ((c.in-Some.ensures.some, refl, refl, refl), λ within. omega (arith, within.0, within.1, within.2, c.max.ensures, c.max-longest.ensures, c.if-longest-gt-TERM_LIMIT.true)))
+pub triple_of-requires-clause-predicate : goal.triple_of-requires-clause-predicate
+triple_of-requires-clause-predicate c =
+    let parts = c.in-Ok-Some.parts in
+    let reads : IsTripleText (chars c.in-Ok.text.now) parts.sign (triple_of parts.object_kind parts.subject.items parts.predicate.items parts.object.items) = search (rules) in
+    (line_canonical c.args.line.now c.in-Ok.text.now _ _ c.in-Ok.ensures.cases.0 c.in-Ok.ensures.cases.1 reads).1
 
-pub returns-in-Err-clause-err : goal.returns-in-Err-clause-err
-returns-in-Err-clause-err c =
-    let parts = c.in-Some.parts in
-    (fact_of parts.subject.now parts.predicate.now parts.object.now, (omega (arith, c.if-line-gt-LINE_LIMIT.false), (c.in-Some.ensures.some, refl, refl, refl), (omega arith, omega arith, omega arith)))
+pub triple_of-requires-clause-object : goal.triple_of-requires-clause-object
+triple_of-requires-clause-object c =
+    let parts = c.in-Ok-Some.parts in
+    let reads : IsTripleText (chars c.in-Ok.text.now) parts.sign (triple_of parts.object_kind parts.subject.items parts.predicate.items parts.object.items) = search (rules) in
+    (line_canonical c.args.line.now c.in-Ok.text.now _ _ c.in-Ok.ensures.cases.0 c.in-Ok.ensures.cases.1 reads).2
+
+pub returns-in-Ok-None-clause-err : goal.returns-in-Ok-None-clause-err
+returns-in-Ok-None-clause-err c =
+    let same : c.in-Ok.text.now ≡ c.args.line.now = c.in-Ok.ensures.cases.0 in
+    let none : IsNoTriple (chars c.in-Ok.text.now) = search (rules) in (
+      omega arith,
+      λ silent.
+          let here = subst (λ t. IsNothingOrComment t) (sym (c.after_blanks.ensures ∙ ap (λ bytes. after_blanks (chars bytes)) same)) silent.1 in
+          true≢false (sym (c.is_nothing_or_comment.ensures.1 here) ∙ c.if-is_nothing_or_comment.false),
+      λ sign fact spells. none sign fact (subst (λ bytes. IsTripleText (chars bytes) sign fact) (sym same) spells.1),
+    )

@@ -1,4 +1,6 @@
-use Rattle.std.proofs.Common.{◌≡◌, ℕ, List, sym, subst, Some}
+use Rattle.std.proofs.Common.{◌≡◌, ℕ, List, ◌∷◌, [], ◌++◌, sym, subst, Some, None, append-nil}
+use Rattle.ts_script.specs.Body.{SpellBody}
+use Rattle.ts_model.specs.declared.signed.SignedTriple.{SignedTriple}
 use Rattle.ts_nt.specs.LineRead.{Answers, IsRefusedFor}
 use Rattle.ts_nt.specs.declared.read.LineError.TheVariants as line_error
 use Rattle.ts_script.proofs.BodyLemmas.{given-whole, fault-more, spell-more, fault-here}
@@ -19,3 +21,11 @@ returns-in-Err-Bad c = λ before lines bytes seen number was.
     let whole : bytes ≡ c.args.line.now.bytes.now = given-whole bytes c.args.line.now.bytes.now c.args.line.now.too_long seen c.if-line.false in
     let bad : IsRefusedFor bytes line_error.Bad = subst (λ (b : List ℕ). IsRefusedFor b line_error.Bad) (sym whole) (rw c.in-Err-Bad.field-0-is at c.in-Err-Bad.ensures.err) in
     fault-here (λ line. IsRefusedFor line line_error.Bad) before lines c.args.self.now.signed.items bytes c.args.line.now.number number (rw c.in-None.is at was) bad
+
+pub returns-in-Ok-None : goal.returns-in-Ok-None
+returns-in-Ok-None c = λ before lines bytes seen number was.
+    let whole : bytes ≡ c.args.line.now.bytes.now = given-whole bytes c.args.line.now.bytes.now c.args.line.now.too_long seen c.if-line.false in
+    let answer : Answers bytes None = subst (λ (b : List ℕ). Answers b None) (sym whole) (rw c.in-Ok-None.field-0-is at c.in-Ok-None.ensures.ok) in
+    let body = c.args.self.now.signed.items in
+    let spelled = spell-more lines body bytes None (rw c.in-None.is at was) answer in
+    rw c.in-None.is (subst (λ (b : List SignedTriple). SpellBody (lines ++ bytes ∷ []) b) (append-nil body) spelled)
