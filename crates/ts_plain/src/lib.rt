@@ -1,8 +1,12 @@
-//! The plain file of a layer: one readable line for the layer, and one for each change.
+//! The plain file of a layer, and the listing of a layer from such files.
 //!
-//! [`write_plain`] makes the file of a [`PlainLayer`], whose additions and removals rise and have no triple in common, whose
-//! parent is less than it, and which has no removals where it has no parent. The layer above uses that the bytes are
-//! exactly the layer's plain file.
+//! [`write_plain`] makes the file of a [`PlainLayer`]: one readable line for the layer, and one for each change. Its
+//! additions and removals rise and have no triple in common, its parent is less than it, and it has no removals where it
+//! has no parent. [`plain_listing`] gives the triples of a layer in birth order: it climbs down the chain by binary search,
+//! replays the chain from its base over one sorted set, notes the first layer of each term, and sorts once.
+//!
+//! The layer above uses that the bytes of a file are exactly the layer's plain file, and that a listing is exactly the
+//! listing of the layer in the history that the layers make.
 #![tactic(auto)]
 
 pub use listing::plain_listing;

@@ -15,7 +15,8 @@ use std::cmp::Ordering;
 use std::collections::BTreeMap;
 use ts_model::{Term, Triple};
 
-/// The triples of a layer in birth order, each once.
+/// The triples of a layer in birth order, each once: by the births of subject, predicate and object, at one birth node
+/// before value, and then by spelling.
 pub fn plain_listing(
     alloc: Global,
     layers: &[PlainLayer],

@@ -1,9 +1,12 @@
-ghost use Rattle.std.specs.Prelude.{IfOk, IfSome, IsTrue};
+ghost use Rattle.std.specs.Prelude.{◌≡◌, true, false, map, IfOk, IsTrue};
 ghost use Rattle.std.specs.FinMap.{contains_key};
+ghost use Rattle.std.specs.Ordering.{eq_by_cmp};
+ghost use Rattle.ts_model.specs.Order.{fact_cmp};
 ghost use Rattle.ts_plain.specs.History.{AreHistory, history_of};
 
 use crate::{PlainLayer, plain_listing, write_plain};
 use std::alloc::{AllocError, Global};
+use std::cmp::Ordering;
 use std::test::Fail;
 use ts_model::{Triple, net_additions};
 use ts_nt::{read_line, write_triple};
@@ -27,40 +30,57 @@ fn a_base_layer_of_two_triples(rt: HostRuntime) -> Result<(), Fail> {
     Ok(())
 }
 
-/// A base of two triples; a layer that removes the first and adds a third; and a layer that adds the first again.
-fn story(
-    alloc: Global,
-    x: Triple,
-    y: Triple,
-    z: Triple,
-) -> Result<Option<Vec<PlainLayer>>, AllocError>
-    ensures { IfOk result (λ story. IfSome story (λ layers. AreHistory layers.items
-        × IsTrue (contains_key (history_of layers.items) 2)
-        × IsTrue (contains_key (history_of layers.items) 3))) }
+fn copies(alloc: Global, triples: &[&Triple]) -> Result<Vec<Triple>, AllocError>
+    ensures { IfOk result (λ copies. copies.items ≡ map (λ triple. triple.now) triples.now) }
 {
-    if !x.cmp(&y).is_lt() || z == x || z == y {
-        return Ok(None);
+    let mut copies = Vec::new(alloc);
+    for triple in triples {
+        copies.push(triple.copy(alloc)?)?;
     }
-    let (gone, again) = (x.copy(alloc)?, x.copy(alloc)?);
-    let base = PlainLayer {
-        number: 1,
-        parent: None,
-        additions: vec![in alloc; x, y]?,
-        removals: Vec::new(alloc),
-    };
-    let middle = PlainLayer {
-        number: 2,
-        parent: Some(1),
-        additions: vec![in alloc; z]?,
-        removals: vec![in alloc; gone]?,
-    };
-    let last = PlainLayer {
-        number: 3,
-        parent: Some(2),
-        additions: vec![in alloc; again]?,
-        removals: Vec::new(alloc),
-    };
-    Ok(Some(vec![in alloc; base, middle, last]?))
+    Ok(copies)
+}
+
+fn layer(
+    alloc: Global,
+    number: u32,
+    parent: Option<u32>,
+    added: &[&Triple],
+    removed: &[&Triple],
+) -> Result<PlainLayer, AllocError>
+    ensures number { IfOk result (λ layer. layer.number ≡ number) }
+    ensures parent { IfOk result (λ layer. layer.parent ≡ parent) }
+    ensures additions { IfOk result (λ layer. layer.additions.items ≡ map (λ triple. triple.now) added.now) }
+    ensures removals { IfOk result (λ layer. layer.removals.items ≡ map (λ triple. triple.now) removed.now) }
+{
+    let additions = copies(alloc, added)?;
+    let removals = copies(alloc, removed)?;
+    Ok(PlainLayer {
+        number,
+        parent,
+        additions,
+        removals,
+    })
+}
+
+/// A base of two triples; a layer that removes the first and adds a third; and a layer that adds the first again.
+fn story<'a>(
+    alloc: Global,
+    x: &'a Triple,
+    y: &'a Triple,
+    z: &'a Triple,
+) -> Result<Vec<PlainLayer>, AllocError>
+    requires rise { fact_cmp x.now y.now ≡ Ordering.Less }
+    requires not_first { eq_by_cmp fact_cmp z.now x.now ≡ false }
+    requires not_second { eq_by_cmp fact_cmp z.now y.now ≡ false }
+    ensures { IfOk result (λ layers. AreHistory layers.items
+        × IsTrue (contains_key (history_of layers.items) 2)
+        × IsTrue (contains_key (history_of layers.items) 3)) }
+{
+    let base = layer(alloc, 1, None, &[x, y], &[])?;
+    let middle = layer(alloc, 2, Some(1), &[z], &[x])?;
+    let last = layer(alloc, 3, Some(2), &[x], &[])?;
+    let layers = vec![in alloc; base, middle, last]?;
+    Ok(layers)
 }
 
 fn triple(alloc: Global, line: &[u8]) -> Result<Triple, Fail> {
@@ -75,25 +95,49 @@ fn written(alloc: Global, triples: &[Triple]) -> Result<Vec<u8>, AllocError> {
     Ok(text)
 }
 
+/// Whether the first is below the second, and the third is another.
+fn can_tell(x: &Triple, y: &Triple, z: &Triple) -> bool
+    ensures rise { result ≡ true → fact_cmp x.now y.now ≡ Ordering.Less }
+    ensures not_first { result ≡ true → eq_by_cmp fact_cmp z.now x.now ≡ false }
+    ensures not_second { result ≡ true → eq_by_cmp fact_cmp z.now y.now ≡ false }
+{
+    matches!(x.cmp(y), Ordering::Less) && z != x && z != y
+}
+
+fn listed(alloc: Global, layers: &[PlainLayer], number: u32) -> Result<Vec<u8>, AllocError>
+    requires history { AreHistory layers.now }
+    requires stands { IsTrue (contains_key (history_of layers.now) number) }
+{
+    written(alloc, plain_listing(alloc, layers, number)?.as_slice())
+}
+
+/// The listings of the second and the third layer of a story.
+fn told<'a>(
+    alloc: Global,
+    x: &'a Triple,
+    y: &'a Triple,
+    z: &'a Triple,
+) -> Result<(Vec<u8>, Vec<u8>), Fail> {
+    if !can_tell(x, y, z) {
+        return Err("the triples are not as they should be".into());
+    }
+    let layers = story(alloc, x, y, z)?;
+    let second = listed(alloc, layers.as_slice(), 2)?;
+    let third = listed(alloc, layers.as_slice(), 3)?;
+    Ok((second, third))
+}
+
 #[test]
 fn a_term_keeps_its_birth(rt: HostRuntime) -> Result<(), Fail> {
     let alloc = rt.alloc();
     let x = triple(alloc, b"<x> <p> <o> .")?;
     let y = triple(alloc, b"<y> <p> <o> .")?;
     let a = triple(alloc, b"<a> <p> <o> .")?;
-    let layers = story(alloc, x, y, a)?.ok_or("no history")?;
-    let second = written(
-        alloc,
-        plain_listing(alloc, layers.as_slice(), 2)?.as_slice(),
-    )?;
+    let (second, third) = told(alloc, &x, &y, &a)?;
     assert_eq!(rt;
         second.as_slice(),
         b"<y> <p> <o> .\n<a> <p> <o> .\n".as_slice()
     );
-    let third = written(
-        alloc,
-        plain_listing(alloc, layers.as_slice(), 3)?.as_slice(),
-    )?;
     assert_eq!(rt;
         third.as_slice(),
         b"<x> <p> <o> .\n<y> <p> <o> .\n<a> <p> <o> .\n".as_slice()
