@@ -1,7 +1,15 @@
+pub mod ApartLaws
 pub mod ChainLaws
+pub mod CutLaws
+pub mod EndLaws
+pub mod HeadLaws
 pub mod HeldLaws
 pub mod LayerLaws
+pub mod LineLaws
 pub mod ListingLaws
 pub mod LookupLaws
+pub mod OrderLaws
+pub mod PlainLaws
 pub mod Rows
 pub mod RuleLaws
+pub mod SectionLaws

@@ -3,4 +3,5 @@ pub mod Held
 pub mod History
 pub mod Keys
 pub mod PlainFile
+pub mod PlainReading
 pub mod PlainRules

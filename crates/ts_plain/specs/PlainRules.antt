@@ -1,7 +1,7 @@
 -- What a layer that has a plain file keeps to.
-use Rattle.std.specs.Prelude.{◌≡◌, ℕ, ◌<◌, List, [], Contains, Option, Some, None}
+use Rattle.std.specs.Prelude.{◌≡◌, ℕ, ◌<◌, ◌≤◌, List, [], All, Contains, Option, Some, None, IfSome}
 use Rattle.std.specs.List.Sorted.{IsStrictlySortedBy}
-use Rattle.ts_model.specs.Fact.{Fact}
+use Rattle.ts_model.specs.Fact.{Fact, IsTriple}
 use Rattle.ts_model.specs.Order.{fact_cmp}
 
 -- a base has no removals, and another layer's parent is less than it
@@ -15,3 +15,8 @@ pub record KeepsPlainRules (number : ℕ) (parent : Option ℕ) (additions remov
   pub removals_rise : IsStrictlySortedBy fact_cmp removals
   pub apart : (fact : Fact) → Contains additions fact → Contains removals fact → ⊥
   pub parent_fits : FitsParent number parent removals
+
+-- what has a plain file that is read: the rules, and triples alone, and a parent with a number
+abbrev pub IsPlainLayer : ℕ → Option ℕ → List Fact → List Fact → Type 0
+IsPlainLayer number parent additions removals =
+    KeepsPlainRules number parent additions removals × All IsTriple additions × All IsTriple removals × IfSome parent (λ p. 1 ≤ p)

@@ -2,20 +2,29 @@
 //!
 //! [`write_plain`] makes the file of a [`PlainLayer`]: one readable line for the layer, and one for each change. Its
 //! additions and removals rise and have no triple in common, its parent is less than it, and it has no removals where it
-//! has no parent. [`plain_listing`] gives the triples of a layer in birth order: it climbs down the chain by binary search,
-//! replays the chain from its base over one sorted set, notes the first layer of each term, and sorts once.
+//! has no parent. [`read_plain`] gives the layer of a file, or [`PlainError`]. [`plain_listing`] gives the triples of a
+//! layer in birth order: it climbs down the chain by binary search, replays the chain from its base over one sorted set,
+//! notes the first layer of each term, and sorts once.
 //!
-//! The layer above uses that the bytes of a file are exactly the layer's plain file, and that a listing is exactly the
-//! listing of the layer in the history that the layers make.
+//! The layer above uses that the bytes that are written are exactly the layer's plain file, that bytes are read just where
+//! they are exactly such a file, and that a listing is exactly the listing of the layer in the history that the layers make.
 #![tactic(auto)]
 
 pub use listing::plain_listing;
+pub use read::{PlainError, read_plain};
 pub use write::{PlainLayer, write_plain};
 
+mod apart;
 mod births;
 mod chain;
+mod changes;
 mod content;
+mod head;
+mod lines;
 mod listing;
+mod read;
+#[cfg(test)]
+mod read_tests;
 #[cfg(test)]
 mod tests;
 mod write;

@@ -1,15 +1,16 @@
 -- The names of the store's files are names of files.
-use Rattle.std.proofs.Common.{◌≡◌, ◌≢◌, ℕ, ◌/◌, ◌%◌, ◌<◌, ◌==◌, ◌&&◌, Bool, true, false, not, nat_le, List, [], ◌∷◌, length, get_or, refl, sym, ◌∙◌, ap, arith}
+use Rattle.std.proofs.Common.{◌≡◌, ◌≢◌, ℕ, ◌/◌, ◌%◌, ◌<◌, ◌==◌, ◌&&◌, Bool, true, false, not, nat_le, List, [], ◌∷◌, length, get_or, refl, sym, ◌∙◌, ap, arith, length-append, IsTrue}
 use Rattle.std.specs.Prelude.{codes, All, slice_index}
 use Rattle.std.specs.Int.{w32, to_be_bytes}
 use Rattle.std.specs.List.{list_all, AllByRecursion}
 use Rattle.std.proofs.lemmas.List.Folds.{list_all_at}
 use Rattle.std.proofs.lemmas.Bool.{leb-true, eqb-false}
-use Rattle.std.proofs.lemmas.List.Elements.{All-append, All-from_recursion}
+use Rattle.std.proofs.lemmas.List.Elements.{All-append, All-from_recursion, All-weaker}
 use Rattle.hex.specs.Hex.{lower_digits, encode_with, encode_lower}
 use Rattle.ts_model.specs.LayerText.{layer_text}
 use Rattle.ts_site.specs.FileName.{IsNameByte, IsFileName}
-use Rattle.ts_replace.specs.Names.{layer_name}
+use Rattle.ts_model.specs.Names.{is_label_byte, IsLabelName}
+use Rattle.ts_replace.specs.Names.{layer_name, rollup_name, label_file_name}
 use Rattle.ts_replace.specs.Replaced.{new_tmp}
 
 abbrev is_visible : ℕ → Bool
@@ -78,3 +79,31 @@ layer_name-IsFileName n = record {
 
 pub layer_name-other : (n : ℕ) → layer_name n ≢ new_tmp
 layer_name-other n e = omega (arith, length-layer_name n, ap length e)
+
+length-rollup_name : (n : ℕ) → length (rollup_name n) ≡ 15
+unfolding encode_with
+length-rollup_name n = refl
+
+pub rollup_name-IsFileName : (n : ℕ) → IsFileName (rollup_name n)
+rollup_name-IsFileName n = record {
+  not_empty = omega (arith, length-rollup_name n);
+  within = omega (arith, length-rollup_name n);
+  visible = All-append IsNameByte (layer_text n) (codes ".rollup") (all_seen (layer_text n) (encoded (to_be_bytes w32 n) (bytes_of n))) (all_seen (codes ".rollup") refl);
+}
+
+label_byte : (b : ℕ) → IsTrue (is_label_byte b) → IsNameByte b
+label_byte b is =
+    let low = first_true (nat_le 0x21 b && nat_le b 0x7E && not (b == 0x2F)) (not (b == 0x22)) is in
+    let high = first_true (nat_le 0x21 b && nat_le b 0x7E) (not (b == 0x2F)) low in
+    record {
+      low = leb-true 0x21 b (first_true (nat_le 0x21 b) (nat_le b 0x7E) high);
+      high = leb-true b 0x7E (second_true (nat_le 0x21 b) (nat_le b 0x7E) high);
+      no_slash = eqb-false b 0x2F (not_true (b == 0x2F) (second_true (nat_le 0x21 b && nat_le b 0x7E) (not (b == 0x2F)) low));
+    }
+
+pub label_file_name-IsFileName : (name : List ℕ) → IsLabelName name → IsFileName (label_file_name name)
+label_file_name-IsFileName name is = record {
+  not_empty = omega (arith, length-append name (codes ".label"), is.0);
+  within = omega (arith, length-append name (codes ".label"), is.1);
+  visible = All-append IsNameByte name (codes ".label") (All-weaker (λ b. IsTrue (is_label_byte b)) IsNameByte label_byte name is.2) (all_seen (codes ".label") refl);
+}

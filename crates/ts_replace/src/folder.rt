@@ -1,5 +1,5 @@
 // What stands in a folder.
-ghost use Rattle.std.specs.Prelude.{◌≡◌, ◌≢◌, ◌++◌, ℕ, List, IfOk, MatchOption, codes};
+ghost use Rattle.std.specs.Prelude.{◌≡◌, ◌≢◌, ◌++◌, ℕ, List, All, IfOk, MatchOption, codes};
 ghost use Rattle.std.specs.Ordering.{nat_cmp};
 ghost use Rattle.std.specs.Cmp.Lexicographic.{slice_cmp};
 ghost use Rattle.std.specs.List.Sorted.{IsStrictlyIncreasing, IsStrictlySortedBy};
@@ -28,6 +28,7 @@ impl Folder {
     /// Lists a folder. Files of other names are left out.
     pub fn scan<W: Site>(alloc: Global, site: &mut W) -> Result<Folder, ScanFail>
         ensures rising { IfOk result (λ found. Rise found.layers.items found.rollups.items found.labels.items) }
+        ensures numbers { IfOk result (λ found. All IsLayerNumber found.layers.items) }
         ensures folder { Tells (W.tells_folder site.old) (W.tells_folder site.new)
             ((W.now site.new ≡ W.now site.old)
             × IfOk result (λ found. AreThoseOf (W.now site.old) found.layers.items found.rollups.items found.labels.items)) }

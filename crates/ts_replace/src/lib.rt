@@ -17,7 +17,7 @@ mod scan_fail;
 
 pub use change::{place, replace, stage};
 pub use folder::Folder;
-pub use names::layer_file;
+pub use names::{label_file, layer_file, rollup_file};
 pub use read::read_file;
 pub use scan_fail::ScanFail;
 

@@ -1,5 +1,6 @@
-use Rattle.std.proofs.Common.{List, ℕ, subst}
+use Rattle.std.proofs.Common.{List, ℕ, get_or, subst}
 use Rattle.std.specs.Prelude.{codes}
+use Rattle.std.proofs.lemmas.List.Elements.{Contains-get_or}
 use Rattle.ts_model.specs.LayerText.{layer_text}
 use Rattle.ts_model.specs.Names.{IsLabelName}
 use Rattle.ts_site.specs.Folder.{AppendsNames}
@@ -24,3 +25,8 @@ returns-clause-folder g c = (
         },
       ),
 )
+
+pub returns-clause-numbers : goal.returns-clause-numbers
+returns-clause-numbers g c = λ k d below.
+    let numbers = c.in_ok-layers.layers.items in
+    ((c.in_ok-layers.ensures.named (get_or numbers k d)).0 (Contains-get_or numbers k d below)).0

@@ -1,0 +1,95 @@
+-- A plain file as its head and its two sections.
+use Rattle.std.proofs.Common.{◌≡◌, ◌≢◌, ◌^◌, ◌<◌, ◌≤◌, ℕ, List, [], ◌∷◌, ◌++◌, Option, None, Some, IfSome, refl, sym, ap, ◌∙◌, subst, arith, append_assoc, append-nil}
+use Rattle.ts_model.specs.Fact.{Fact}
+use Rattle.ts_plain.specs.PlainFile.{head_line, change_lines, plain_file}
+use Rattle.ts_plain.specs.PlainReading.{AreApart, HasNoSign, IsParent, IsSection}
+use Rattle.ts_plain.specs.PlainRules.{FitsParent, IsPlainLayer, KeepsPlainRules}
+use Rattle.ts_plain.proofs.HeadLaws.{head_once}
+use Rattle.ts_plain.proofs.SectionLaws.{one_section}
+
+first_same : (a b : ℕ) (xs ys : List ℕ) → a ∷ xs ≡ b ∷ ys → a ≡ b
+first_same a b xs ys e = cc
+
+no_addition : (removals : List Fact) → HasNoSign 0x2B (change_lines 0x2D removals)
+no_addition [] rest e = cc
+no_addition (r ∷ removals) rest e = let same = first_same 0x2D 0x2B _ _ e in omega (arith, same)
+
+nothing : (sign : ℕ) → HasNoSign sign []
+nothing sign rest e = cc
+
+parent_of : (number : ℕ) (parent : Option ℕ) (additions removals : List Fact) → IsPlainLayer number parent additions removals → IsParent number parent
+parent_of number None additions removals layer = tt
+parent_of number (Some parent) additions removals layer = (layer.3, layer.0.parent_fits)
+
+file_parts : (number : ℕ) (parent : Option ℕ) (additions removals : List Fact)
+    → plain_file number parent additions removals ≡ head_line number parent ++ (change_lines 0x2B additions ++ change_lines 0x2D removals)
+file_parts number parent additions removals = append_assoc (head_line number parent) (change_lines 0x2B additions) (change_lines 0x2D removals)
+
+module _ (number : ℕ) (bytes : List ℕ) (parent : Option ℕ) (additions removals : List Fact) (layer : IsPlainLayer number parent additions removals)
+    (is : bytes ≡ plain_file number parent additions removals) where
+  whole : bytes ≡ head_line number parent ++ (change_lines 0x2B additions ++ change_lines 0x2D removals)
+  whole = is ∙ file_parts number parent additions removals
+
+  pub needs_head : ((parent : Option ℕ) (rest : List ℕ) → IsParent number parent → bytes ≢ head_line number parent ++ rest) → ⊥
+  needs_head none = none parent _ (parent_of number parent additions removals layer) whole
+
+  module _ (fits : number < 2 ^ 32) (named : Option ℕ) (body : List ℕ) (can : IsParent number named) (head : bytes ≡ head_line number named ++ body) where
+    both : (named ≡ parent) × (body ≡ change_lines 0x2B additions ++ change_lines 0x2D removals)
+    both = head_once number named parent body _ bytes fits can (parent_of number parent additions removals layer) head whole
+
+    first : IsSection 0x2B body additions (change_lines 0x2D removals)
+    first = record { rise = layer.0.additions_rise; triples = layer.1; ends = no_addition removals; lines = both.1 }
+
+    pub needs_additions : ((facts : List Fact) (rest : List ℕ) → IsSection 0x2B body facts rest → ⊥) → ⊥
+    needs_additions none = none additions _ first
+
+    module _ (added : List Fact) (behind : List ℕ) (section : IsSection 0x2B body added behind) where
+      same : (added ≡ additions) × (behind ≡ change_lines 0x2D removals)
+      same = one_section 0x2B body added additions behind _ section first
+
+      second : IsSection 0x2D behind removals []
+      second = record { rise = layer.0.removals_rise; triples = layer.2; ends = nothing 0x2D; lines = same.1 ∙ sym (append-nil (change_lines 0x2D removals)) }
+
+      pub needs_removals : ((facts : List Fact) (rest : List ℕ) → IsSection 0x2D behind facts rest → ⊥) → ⊥
+      needs_removals none = none removals [] second
+
+      module _ (removed : List Fact) (rest : List ℕ) (other : IsSection 0x2D behind removed rest) where
+        last : (removed ≡ removals) × (rest ≡ [])
+        last = one_section 0x2D behind removed removals rest [] other second
+
+        pub needs_end : rest ≡ []
+        needs_end = last.1
+
+        base : (p : Option ℕ) (facts : List Fact) → FitsParent number p facts → p ≡ None → facts ≡ []
+        base None facts h e = h
+        base (Some p) facts h e = cc
+
+        pub needs_apart : AreApart added removed × (named ≡ None → removed ≡ [])
+        needs_apart = (
+          subst (λ facts. AreApart facts removed) (sym same.0) (subst (AreApart additions) (sym last.0) layer.0.apart),
+          λ none. last.0 ∙ base parent removals layer.0.parent_fits (sym both.0 ∙ none),
+        )
+
+-- what was read is a layer's file
+pub is_layer : (number : ℕ) (bytes : List ℕ) (named : Option ℕ) (body : List ℕ) (added removed : List Fact) (behind rest : List ℕ) → IsParent number named
+    → bytes ≡ head_line number named ++ body → IsSection 0x2B body added behind → IsSection 0x2D behind removed rest → rest ≡ []
+    → AreApart added removed → (named ≡ None → removed ≡ []) → IsPlainLayer number named added removed × (bytes ≡ plain_file number named added removed)
+is_layer number bytes named body added removed behind rest can head one other over apart base =
+    let rules : KeepsPlainRules number named added removed = record {
+      additions_rise = one.rise;
+      removals_rise = other.rise;
+      apart = apart;
+      parent_fits = fitting named can base;
+    } in
+    let last : behind ≡ change_lines 0x2D removed = other.lines ∙ ap (λ l. change_lines 0x2D removed ++ l) over ∙ append-nil (change_lines 0x2D removed) in
+    let file : bytes ≡ plain_file number named added removed =
+    head ∙ ap (λ l. head_line number named ++ l) (one.lines ∙ ap (λ l. change_lines 0x2B added ++ l) last) ∙ sym (file_parts number named added removed) in
+    ((rules, one.triples, other.triples, numbered named can), file)
+  where
+    fitting : (p : Option ℕ) → IsParent number p → (p ≡ None → removed ≡ []) → FitsParent number p removed
+    fitting None h base = base refl
+    fitting (Some p) h base = h.1
+
+    numbered : (p : Option ℕ) → IsParent number p → IfSome p (λ n. 1 ≤ n)
+    numbered None h = tt
+    numbered (Some p) h = h.0

@@ -1,0 +1,29 @@
+-- The parts of a plain file, from its front to its end.
+use Rattle.std.specs.Prelude.{◌≡◌, ◌≢◌, ℕ, ◌<◌, ◌≤◌, List, ◌∷◌, ◌++◌, All, Contains, Option, IfSome}
+use Rattle.std.specs.List.Sorted.{IsStrictlySortedBy}
+use Rattle.ts_model.specs.Fact.{Fact, IsTriple}
+use Rattle.ts_model.specs.Order.{fact_cmp}
+use Rattle.ts_plain.specs.PlainFile.{change_lines}
+
+-- no line feed stands in the text
+abbrev pub HasNoEnd : List ℕ → Type 0
+HasNoEnd text = All (λ byte. byte ≢ 0x0A) text
+
+-- a parent has a number, which is less than the layer's
+abbrev pub IsParent : ℕ → Option ℕ → Type 0
+IsParent number parent = IfSome parent (λ p. (1 ≤ p) × (p < number))
+
+-- the bytes don't begin with the sign and a space
+abbrev pub HasNoSign : ℕ → List ℕ → Type 0
+HasNoSign sign bytes = (rest : List ℕ) → bytes ≢ sign ∷ 0x20 ∷ rest
+
+-- the lines of a sign at the front of the bytes are those of triples that rise, and the rest follows them
+pub record IsSection (sign : ℕ) (bytes : List ℕ) (facts : List Fact) (rest : List ℕ) : Type 0 where
+  pub rise : IsStrictlySortedBy fact_cmp facts
+  pub triples : All IsTriple facts
+  pub ends : HasNoSign sign rest
+  pub lines : bytes ≡ change_lines sign facts ++ rest
+
+-- no triple stands in both
+abbrev pub AreApart : List Fact → List Fact → Type 0
+AreApart additions removals = (fact : Fact) → Contains additions fact → Contains removals fact → ⊥
