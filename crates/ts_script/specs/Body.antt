@@ -41,3 +41,5 @@ abbrev pub IsBase : ℕ → List (List ℕ) → Command → Type 0
 IsBase before lines (command.Base body) = SpellBody lines body
 IsBase before lines (command.BadTriple number) = IsFirstFault (λ line. IsRefusedFor line line_error.Bad) before lines number
 IsBase before lines (command.TooLong number) = IsFirstFault (λ line. IsRefusedFor line line_error.TooLong) before lines number
+IsBase before lines (command.Listing at pattern) = ⊥
+IsBase before lines (command.Has at triple) = ⊥

@@ -1,10 +1,11 @@
 -- What is told of a command, a line each.
 use Rattle.std.specs.Prelude.{ℕ, List, [], ◌∷◌, ◌++◌, codes, decimal}
 use Rattle.ts_model.specs.LayerText.{layer_text}
+use Rattle.ts_script.specs.Words.{layer_word}
 use Rattle.ts_script.specs.declared.reply.Reply.{Reply}
-use Rattle.ts_script.specs.declared.reply.Reply.TheVariants.{Layer}
+use Rattle.ts_script.specs.declared.reply.Reply.TheVariants.{Layer, Total, Yes, No}
 use Rattle.ts_script.specs.declared.reply.Refusal.{Refusal}
-use Rattle.ts_script.specs.declared.reply.Refusal.TheVariants.{BadTriple, TooLong, Full, NotBuilt}
+use Rattle.ts_script.specs.declared.reply.Refusal.TheVariants.{BadTriple, TooLong, NoLayer, Full}
 
 -- a line ends with a line feed
 abbrev pub line : List ℕ → List ℕ
@@ -12,13 +13,16 @@ line text = text ++ 10 ∷ []
 
 abbrev pub reply_text : Reply → List ℕ
 reply_text (Layer number) = line (codes "layer " ++ layer_text number)
+reply_text (Total count) = line (codes "total " ++ decimal count)
+reply_text Yes = line (codes "yes")
+reply_text No = line (codes "no")
 
 -- the words of a refusal
 abbrev pub refusal_words : Refusal → List ℕ
 refusal_words (BadTriple number) = codes "bad-triple " ++ decimal number
 refusal_words (TooLong number) = codes "too-long " ++ decimal number
+refusal_words (NoLayer layer) = codes "no-layer " ++ layer_word layer
 refusal_words Full = codes "full"
-refusal_words (NotBuilt number) = codes "not-built " ++ decimal number
 
 abbrev pub refusal_text : Refusal → List ℕ
 refusal_text refusal = line (codes "refused " ++ refusal_words refusal)

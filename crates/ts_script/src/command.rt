@@ -2,7 +2,7 @@
 ghost use Rattle.std.specs.Prelude.{◌≡◌};
 
 use std::marker::Model;
-use ts_model::SignedTriple;
+use ts_model::{Pattern, SignedTriple, Triple};
 
 /// The triples that the lines of a body name, with their signs, in the order of the lines.
 #[derive(Debug, Drop)]
@@ -40,6 +40,20 @@ impl Body {
     }
 }
 
+/// A layer as a command names it.
+#[derive(Clone, Copy, Debug)]
+pub enum LayerRef {
+    Number(u32),
+    /// The newest layer that was made in this run.
+    Last,
+}
+
+/// A layer, as a command refers to it.
+#[derive(Clone, Copy, Debug)]
+pub enum Ref {
+    Layer(LayerRef),
+}
+
 /// A command, with its body where it has one.
 #[derive(Debug, Drop)]
 pub enum Command {
@@ -49,4 +63,8 @@ pub enum Command {
     TooLong { line: u64 },
     /// Makes a layer that stands alone.
     Base { body: Body },
+    /// Lists the triples of a layer that fit, in birth order.
+    Listing { at: Ref, pattern: Pattern },
+    /// Tells whether a layer has a triple.
+    Has { at: Ref, triple: Triple },
 }

@@ -2,7 +2,7 @@
 //!
 //! - [`LineCutter`] cuts an input into [`Line`]s, however the source cuts its bytes. [`InputStop`] is why it
 //!   gives none.
-//! - [`Command`] is what words ask for, with its [`Body`] where it has one.
+//! - [`Command`] is what words ask for, with its [`Body`] where it has one. It names a layer by a [`LayerRef`] or [`Ref`].
 //! - [`first_command`] reads it from the words and the rest of the input. [`ScriptStop`] is why it gives none.
 //! - [`Reply`] and [`Refusal`] are what is told of a command; [`reply_line`] and [`refusal_line`] spell them as
 //!   a [`ReplyLine`].
@@ -19,9 +19,10 @@ mod reply;
 mod stop;
 #[cfg(test)]
 mod tests;
+mod words;
 
-pub use command::{Body, Command};
+pub use command::{Body, Command, LayerRef, Ref};
 pub use cutter::{InputStop, Line, LineCutter};
-pub use first::{first_command, is_command};
+pub use first::first_command;
 pub use reply::{Refusal, Reply, ReplyLine, refusal_line, reply_line};
 pub use stop::ScriptStop;

@@ -2,6 +2,7 @@
 ghost use Rattle.std.specs.Prelude.{◌≡◌, ◌+◌, ◌≤◌, ◌++◌, ◌∷◌, [], List, ℕ, length, take, decimal};
 ghost use Rattle.ts_script.specs.Replies.{reply_text, refusal_text};
 
+use crate::LayerRef;
 use itoa::Buffer;
 use std::marker::Model;
 use ts_model::layer_text;
@@ -13,6 +14,10 @@ const ROOM: usize = 256;
 pub enum Reply {
     /// A layer was made.
     Layer(u32),
+    /// So many lines were listed.
+    Total(u128),
+    Yes,
+    No,
 }
 
 /// Why a command is refused. It then changes nothing.
@@ -22,10 +27,10 @@ pub enum Refusal {
     BadTriple(u64),
     /// A line, or a term of the line, is over its limit. Its number.
     TooLong(u64),
+    /// No layer stands that is named so.
+    NoLayer(LayerRef),
     /// No number is left for a layer, or for one of its terms.
     Full,
-    /// What is asked is not built yet.
-    NotBuilt(u64),
 }
 
 /// A line of a reply with its end, of at most 256 bytes.
@@ -83,6 +88,15 @@ pub fn reply_line(reply: &Reply) -> ReplyLine
             .with(b"layer ")
             .with(&layer_text(*number))
             .with(b"\n"),
+        Reply::Total(count) => {
+            let mut buffer = Buffer::new();
+            ReplyLine::new()
+                .with(b"total ")
+                .with(buffer.format(*count).as_bytes())
+                .with(b"\n")
+        }
+        Reply::Yes => ReplyLine::new().with(b"yes\n"),
+        Reply::No => ReplyLine::new().with(b"no\n"),
     }
 }
 
@@ -94,8 +108,12 @@ pub fn refusal_line(refusal: &Refusal) -> ReplyLine
     match refusal {
         Refusal::BadTriple(number) => numbered(line.with(b"bad-triple "), *number),
         Refusal::TooLong(number) => numbered(line.with(b"too-long "), *number),
+        Refusal::NoLayer(LayerRef::Number(number)) => line
+            .with(b"no-layer ")
+            .with(&layer_text(*number))
+            .with(b"\n"),
+        Refusal::NoLayer(LayerRef::Last) => line.with(b"no-layer last\n"),
         Refusal::Full => line.with(b"full\n"),
-        Refusal::NotBuilt(number) => numbered(line.with(b"not-built "), *number),
     }
 }
 

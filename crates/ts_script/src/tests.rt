@@ -1,7 +1,27 @@
 use super::*;
 use std::alloc::Global;
 use std::test::Fail;
+use ts_model::{Pattern, TermKind};
 use ts_site::MemorySource;
+
+/// The words of a text, between single blanks.
+fn words_of(alloc: Global, text: &str) -> Result<Vec<String>, Fail> {
+    let mut words = Vec::new(alloc);
+    for word in text.split(' ') {
+        words.push(String::from_str(alloc, word)?)?;
+    }
+    Ok(words)
+}
+
+/// What the words of a text ask for, without any input.
+fn asked(alloc: Global, text: &str) -> Result<Option<Command>, Fail> {
+    let mut input = MemorySource::new(alloc, b"")?;
+    let mut cutter = LineCutter::new(alloc, 0)?;
+    match first_command(alloc, &words_of(alloc, text)?, &mut cutter, &mut input) {
+        Ok(asked) => Ok(asked),
+        Err(_) => Err("no answer")?,
+    }
+}
 
 /// The lines of a text, each behind its number, and how the input stopped.
 fn lines(alloc: Global, text: &[u8], limit: u64) -> Result<String, Fail> {
@@ -72,18 +92,102 @@ fn words_ask_for_a_base(rt: HostRuntime) -> Result<(), Fail> {
     let alloc = rt.alloc();
     let mut input = MemorySource::new(alloc, b"<a> <p> <b> .\n<a> <p> <b> .\n")?;
     let mut cutter = LineCutter::new(alloc, 1 << 40)?;
-    let words = vec![in alloc; String::from_str(alloc, "base")?]?;
+    let words = words_of(alloc, "base")?;
     match first_command(alloc, &words, &mut cutter, &mut input) {
         Ok(Some(Command::Base { body })) => assert_eq!(rt; body.signed().len(), 2),
         _ => return Err("no base")?,
     }
-    let others = vec![in alloc; String::from_str(alloc, "list")?]?;
+    Ok(())
+}
+
+#[test]
+fn a_line_comes_whole_after_a_fault(rt: HostRuntime) -> Result<(), Fail> {
+    let alloc = rt.alloc();
+    let mut input = MemorySource::new(alloc, b"<a> <p> <b> .\n")?;
+    input.piece(1);
+    input.fail(2);
+    let mut cutter = LineCutter::new(alloc, 100)?;
+    let words = words_of(alloc, "base")?;
     assert!(rt;
         matches!(
-            first_command(alloc, &others, &mut cutter, &mut input),
-            Ok(None)
+            first_command(alloc, &words, &mut cutter, &mut input),
+            Err(ScriptStop::Fault)
         )
     );
+    match cutter.next(&mut input) {
+        Ok(Some(line)) => assert_eq!(rt; line.bytes, b"<a> <p> <b> .".as_slice()),
+        _ => return Err("no line")?,
+    }
+    Ok(())
+}
+
+#[test]
+fn words_ask_for_a_list(rt: HostRuntime) -> Result<(), Fail> {
+    let alloc = rt.alloc();
+    assert!(rt;
+        matches!(
+            asked(alloc, "list 00000001")?,
+            Some(Command::Listing {
+                at: Ref::Layer(LayerRef::Number(1)),
+                pattern: Pattern {
+                    subject: None,
+                    predicate: None,
+                    object: None
+                }
+            })
+        )
+    );
+    assert!(rt;
+        matches!(
+            asked(alloc, "list last")?,
+            Some(Command::Listing {
+                at: Ref::Layer(LayerRef::Last),
+                ..
+            })
+        )
+    );
+    assert!(rt; asked(alloc, "list 0000000A")?.is_none());
+    assert!(rt; asked(alloc, "list")?.is_none());
+    assert!(rt; asked(alloc, "list 00000001 x")?.is_none());
+    Ok(())
+}
+
+#[test]
+fn words_ask_whether_a_layer_has_a_triple(rt: HostRuntime) -> Result<(), Fail> {
+    let alloc = rt.alloc();
+    match asked(alloc, "has 00000001 <\\u0061> <p> \"b\"@en")? {
+        Some(
+            Command::Has {
+                at: Ref::Layer(LayerRef::Number(1)),
+                triple,
+            },
+        ) => {
+            assert_eq!(rt; triple.subject().spelling(), b"<a>".as_slice());
+            assert_eq!(rt; triple.predicate().spelling(), b"<p>".as_slice());
+            assert_eq!(rt; triple.object().spelling(), b"\"b\"@en".as_slice());
+            assert_eq!(rt; triple.object().kind(), TermKind::Value);
+        }
+        _ => return Err("no has")?,
+    }
+    assert!(rt; asked(alloc, "has 00000001 <a> <p> b")?.is_none());
+    assert!(rt; asked(alloc, "has 00000001 \"a\" <p> <b>")?.is_none());
+    assert!(rt; asked(alloc, "has 00000001 <a> _:p <b>")?.is_none());
+    assert!(rt; asked(alloc, "has 00000001 <a> <p> ")?.is_none());
+    Ok(())
+}
+
+#[test]
+fn a_term_over_the_limit_is_no_command(rt: HostRuntime) -> Result<(), Fail> {
+    let alloc = rt.alloc();
+    let mut text = String::from_str(alloc, "has 00000001 _:s <p> <")?;
+    for _ in 0..1_048_574 {
+        text.push('a')?;
+    }
+    let mut longer = text.clone()?;
+    text.push('>')?;
+    longer.push_str("a>")?;
+    assert!(rt; asked(alloc, text.as_str())?.is_some());
+    assert!(rt; asked(alloc, longer.as_str())?.is_none());
     Ok(())
 }
 
@@ -105,4 +209,26 @@ fn each_reply_has_its_line(rt: HostRuntime) {
         refusal_line(&Refusal::Full).bytes(),
         b"refused full\n".as_slice()
     );
+    assert_eq!(rt;
+        refusal_line(&Refusal::NoLayer(LayerRef::Number(2))).bytes(),
+        b"refused no-layer 00000002\n".as_slice()
+    );
+    assert_eq!(rt;
+        refusal_line(&Refusal::NoLayer(LayerRef::Last)).bytes(),
+        b"refused no-layer last\n".as_slice()
+    );
+}
+
+#[test]
+fn each_answer_has_its_line(rt: HostRuntime) {
+    assert_eq!(rt;
+        reply_line(&Reply::Total(0)).bytes(),
+        b"total 0\n".as_slice()
+    );
+    assert_eq!(rt;
+        reply_line(&Reply::Total(u128::MAX)).bytes(),
+        b"total 340282366920938463463374607431768211455\n".as_slice()
+    );
+    assert_eq!(rt; reply_line(&Reply::Yes).bytes(), b"yes\n".as_slice());
+    assert_eq!(rt; reply_line(&Reply::No).bytes(), b"no\n".as_slice());
 }

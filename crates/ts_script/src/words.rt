@@ -1,0 +1,140 @@
+// The commands without a body, read from their words.
+ghost use Rattle.std.specs.Prelude.{◌≡◌, ◌⊎◌, ◌∷◌, [], List, ℕ, map, IfOk, IfSome, IfNone, string_bytes};
+ghost use Rattle.ts_model.specs.Fact.{Fact, HasKinds};
+ghost use Rattle.ts_model.specs.Spelled.{Spelled};
+ghost use Rattle.ts_nt.specs.LineRead.{SpellsTerm};
+ghost use Rattle.ts_script.specs.Words.{AsksFor, IsLayerWord, IsRefWord, IsTermWord};
+
+use crate::{Command, LayerRef, Ref};
+use std::alloc::{AllocError, Global};
+use ts_model::{Pattern, Term, TermKind, Triple, layer_number, split_char};
+use ts_nt::read_term;
+
+/// The command without a body that the words are, and None exactly where they are none.
+pub(crate) fn bodiless(alloc: Global, words: &[String]) -> Result<Option<Command>, AllocError>
+    ensures some { IfOk result (λ asked. IfSome asked (AsksFor (map string_bytes words.now))) }
+    ensures none { IfOk result (λ asked. IfNone asked ((command : Command) → AsksFor (map string_bytes words.now) command → ⊥)) }
+{
+    match words {
+        [name, at] => Ok(listing(name.as_str(), at.as_str())),
+        [name, at, subject, predicate, object] => has(
+            alloc,
+            name.as_str(),
+            at.as_str(),
+            subject.as_str(),
+            predicate.as_str(),
+            object.as_str(),
+        ),
+        _ => Ok(None),
+    }
+}
+
+/// The command of two words.
+fn listing(name: &str, at: &str) -> Option<Command>
+    ensures some { IfSome result (AsksFor (name.now ∷ at.now ∷ [])) }
+    ensures none { IfNone result ((command : Command) → AsksFor (name.now ∷ at.now ∷ []) command → ⊥) }
+{
+    if name != "list" {
+        return None;
+    }
+    let at = layer_ref(at.as_bytes())?;
+    Some(Command::Listing {
+        at: Ref::Layer(at),
+        pattern: Pattern {
+            subject: None,
+            predicate: None,
+            object: None,
+        },
+    })
+}
+
+/// The command of five words.
+fn has(
+    alloc: Global,
+    name: &str,
+    at: &str,
+    subject: &str,
+    predicate: &str,
+    object: &str,
+) -> Result<Option<Command>, AllocError>
+    ensures some { IfOk result (λ asked. IfSome asked (AsksFor (name.now ∷ at.now ∷ subject.now ∷ predicate.now ∷ object.now ∷ []))) }
+    ensures none { IfOk result (λ asked. IfNone asked ((command : Command) → AsksFor (name.now ∷ at.now ∷ subject.now ∷ predicate.now ∷ object.now ∷ []) command → ⊥)) }
+{
+    if name != "has" {
+        return Ok(None);
+    }
+    let Some(at) = layer_ref(at.as_bytes()) else {
+        return Ok(None);
+    };
+    let Some(triple) = read_triple(alloc, subject, predicate, object)? else {
+        return Ok(None);
+    };
+    Ok(Some(Command::Has {
+        at: Ref::Layer(at),
+        triple,
+    }))
+}
+
+/// The layer that a word names.
+fn layer_ref(word: &[u8]) -> Option<LayerRef>
+    ensures some { IfSome result (IsLayerWord word.now) }
+    ensures none { IfNone result ((layer : LayerRef) → IsLayerWord word.now layer → ⊥) }
+{
+    if word == b"last".as_slice() {
+        return Some(LayerRef::Last);
+    }
+    match layer_number(word) {
+        Some(number) => Some(LayerRef::Number(number)),
+        None => None,
+    }
+}
+
+/// The triple that three words spell.
+fn read_triple(
+    alloc: Global,
+    subject: &str,
+    predicate: &str,
+    object: &str,
+) -> Result<Option<Triple>, AllocError>
+    ensures some { IfOk result (λ read. IfSome read (λ triple. HasKinds triple.subject triple.predicate triple.object
+        × IsTermWord subject.now triple.subject × IsTermWord predicate.now triple.predicate × IsTermWord object.now triple.object)) }
+    ensures none { IfOk result (λ read. IfNone read ((triple : Fact) → HasKinds triple.subject triple.predicate triple.object
+        → IsTermWord subject.now triple.subject → IsTermWord predicate.now triple.predicate → IsTermWord object.now triple.object → ⊥)) }
+{
+    let Some(subject) = read_word(alloc, subject, TermKind::Node)? else {
+        return Ok(None);
+    };
+    let Some(predicate) = read_word(alloc, predicate, TermKind::Predicate)? else {
+        return Ok(None);
+    };
+    let Some(object) = read_word(alloc, object, object_kind(object))? else {
+        return Ok(None);
+    };
+    Ok(Some(Triple::of(subject, predicate, object)))
+}
+
+/// The term of this kind that a word spells.
+fn read_word(alloc: Global, word: &str, kind: TermKind) -> Result<Option<Term>, AllocError>
+    ensures some { IfOk result (λ read. IfSome read (λ term. (term.kind ≡ kind) × IsTermWord word.now term)) }
+    ensures none { IfOk result (λ read. IfNone read ((term : Spelled) → term.kind ≡ kind → IsTermWord word.now term → ⊥)) }
+{
+    read_term(alloc, word.as_bytes(), kind)
+}
+
+/// What a word can be as an object: a value where it begins with `"`, and a node elsewhere.
+fn object_kind(word: &str) -> TermKind
+    ensures kind { (result ≡ TermKind.Node) ⊎ (result ≡ TermKind.Value) }
+    ensures node { (spelling : List ℕ) → SpellsTerm word.now TermKind.Node spelling → result ≡ TermKind.Node }
+    ensures value { (spelling : List ℕ) → SpellsTerm word.now TermKind.Value spelling → result ≡ TermKind.Value }
+{
+    match split_char(word) {
+        Some((first, _)) => {
+            if first == '"' {
+                TermKind::Value
+            } else {
+                TermKind::Node
+            }
+        }
+        None => TermKind::Node,
+    }
+}
