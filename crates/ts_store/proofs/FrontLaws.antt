@@ -1,0 +1,92 @@
+-- A text that is said piece by piece.
+use Rattle.std.proofs.Common.{◌≡◌, ℕ, ◌+◌, ◌<◌, ◌≤◌, Bool, true, false, cond, List, [], ◌∷◌, ◌++◌, filter, flat_map, length, take, drop, get_or, Result, Ok, Err, refl, sym, ap, subst, ◌∙◌, arith, append_assoc, append-nil}
+use Rattle.std.proofs.lemmas.List.{take-append-drop, length-append, length-take-le}
+use Rattle.std.proofs.lemmas.List.Elements.{filter_more, filter-append}
+use Rattle.std.proofs.lemmas.List.Concat.{flat_map-append}
+use Rattle.std.proofs.Math.Seq.{take-append_seam}
+use Rattle.ts_store.specs.declared.stop.Stop.{Stop}
+use Rattle.ts_store.specs.declared.stop.Kind.{Kind}
+use Rattle.ts_store.specs.Doing.{SaysFront}
+use Rattle.ts_store.specs.Stops.{LeavesTold}
+
+-- nothing was said yet
+pub front_none : (text old : List ℕ) → SaysFront text old old text
+front_none text old = ([], sym (append-nil old), refl)
+
+-- a front of a piece was said
+pub front_taken : (piece old new : List ℕ) (n : ℕ) → new ≡ old ++ take n piece → SaysFront piece old new (drop n piece)
+front_taken piece old new n e = (take n piece, e, take-append-drop n piece)
+
+-- more of a text was said
+pub front_more : (text line old between new rest left : List ℕ) → SaysFront text old between left → SaysFront (left ++ line) between new rest → SaysFront (text ++ line) old new rest
+front_more text line old between new rest left (one, is, whole) (other, is_other, whole_other) = (
+  one ++ other,
+  is_other ∙ ap (λ l. l ++ other) is ∙ append_assoc old one other,
+  append_assoc one other rest ∙ ap (λ l. one ++ l) whole_other ∙ sym (append_assoc one left line) ∙ ap (λ l. l ++ line) whole,
+)
+
+-- a front of a text is one of a longer text
+pub front_longer : (text more longer old new rest : List ℕ) → longer ≡ text ++ more → SaysFront text old new rest → SaysFront longer old new (rest ++ more)
+front_longer text more longer old new rest e (said, is, whole) =
+    (said, is, sym (append_assoc said rest more) ∙ ap (λ l. l ++ more) whole ∙ sym e)
+
+-- and so many bytes of it
+pub front_length : (text old new rest : List ℕ) → SaysFront text old new rest → (n : ℕ) × (new ≡ old ++ take n text)
+front_length text old new rest (said, is, whole) =
+    (length said, is ∙ ap (λ l. old ++ l) (sym (take-append_seam said rest) ∙ ap (take (length said)) whole))
+
+length-filter : {A : Type 0} (p : A → Bool) (xs : List A) → length (filter p xs) ≤ length xs
+length-filter p [] = omega arith
+length-filter p (x ∷ xs) = let later = length-filter p xs in elim (p x) as (λ b. length (cond b (x ∷ filter p xs) (filter p xs)) ≤ length (x ∷ xs)) [ true ↦ omega arith | false ↦ omega arith ]
+
+module _ {A : Type 0} (p : A → Bool) (f : A → List ℕ) (xs : List A) (i : ℕ) where
+  abbrev pub text_of : ℕ → List ℕ
+  text_of n = flat_map f (filter p (take n xs))
+
+  -- the text is that of the first elements and a rest
+  text_rest_at : (n : ℕ) → flat_map f (filter p xs) ≡ text_of n ++ flat_map f (filter p (drop n xs))
+  text_rest_at n =
+      ap (λ l. flat_map f (filter p l)) (sym (take-append-drop n xs))
+      ∙ ap (flat_map f) (filter-append p (take n xs) (drop n xs))
+      ∙ flat_map-append f (filter p (take n xs)) (filter p (drop n xs))
+
+  pub count_below : i < length xs → length (filter p (take i xs)) ≤ i
+  count_below below = omega (arith, length-filter p (take i xs), length-take-le i xs (omega arith))
+
+  module _ (x : A) (below : i < length xs) (is : x ≡ get_or xs i x) where
+    more : (b : Bool) → p x ≡ b → filter p (take (i + 1) xs) ≡ filter p (take i xs) ++ cond b (x ∷ []) []
+    more b e = filter_more p xs i x below ∙ ap (λ y. filter p (take i xs) ++ cond (p y) (y ∷ []) []) (sym is) ∙ ap (λ c. filter p (take i xs) ++ cond c (x ∷ []) []) e
+
+    pub text_more : p x ≡ true → text_of (i + 1) ≡ text_of i ++ f x
+    text_more e = ap (flat_map f) (more true e) ∙ flat_map-append f (filter p (take i xs)) (x ∷ []) ∙ ap (λ l. text_of i ++ l) (append-nil (f x))
+
+    pub text_same : p x ≡ false → text_of (i + 1) ≡ text_of i
+    text_same e = ap (flat_map f) (more false e ∙ append-nil (filter p (take i xs)))
+
+    pub count_more : p x ≡ true → length (filter p (take (i + 1) xs)) ≡ length (filter p (take i xs)) + 1
+    count_more e = ap length (more true e) ∙ length-append (filter p (take i xs)) (x ∷ [])
+
+    pub count_same : p x ≡ false → length (filter p (take (i + 1) xs)) ≡ length (filter p (take i xs))
+    count_same e = ap length (more false e ∙ append-nil (filter p (take i xs)))
+
+    module _ (e : p x ≡ true) (old between new piece left : List ℕ) (before : SaysFront (text_of i) old between piece) (now : SaysFront (piece ++ f x) between new left) where
+      -- one line more
+      pub lines_more : SaysFront (text_of (i + 1)) old new left
+      lines_more = subst (λ text. SaysFront text old new left) (sym (text_more e)) (front_more (text_of i) (f x) old between new left piece before now)
+
+      -- and there it ended
+      pub lines_ended : (rest : List ℕ) × SaysFront (flat_map f (filter p xs)) old new rest
+      lines_ended =
+          let line : flat_map f (filter p xs) ≡ text_of (i + 1) ++ flat_map f (filter p (drop (i + 1) xs)) = text_rest_at (i + 1) in
+          (left ++ flat_map f (filter p (drop (i + 1) xs)), front_longer (text_of (i + 1)) (flat_map f (filter p (drop (i + 1) xs))) (flat_map f (filter p xs)) old new left line lines_more)
+
+-- a front of the lines is one of the whole reply
+pub list_ended : (text total old new : List ℕ) → (left : List ℕ) × SaysFront text old new left → (n : ℕ) × (new ≡ old ++ take n (text ++ total))
+list_ended text total old new (left, said) = front_length (text ++ total) old new (left ++ total) (front_longer text total (text ++ total) old new left refl said)
+
+-- what was left of the lines is said with the last one
+pub list_done : (result : Result Kind Stop) (text total old between new piece : List ℕ) → SaysFront text old between piece → LeavesTold result (piece ++ total) between new → LeavesTold result (text ++ total) old new
+list_done (Ok kind) text total old between new piece (said, is, whole) told =
+    told ∙ ap (λ l. l ++ (piece ++ total)) is ∙ append_assoc old said (piece ++ total) ∙ ap (λ l. old ++ l) (sym (append_assoc said piece total) ∙ ap (λ l. l ++ total) whole)
+list_done (Err stop) text total old between new piece before (n, is) =
+    front_length (text ++ total) old new (drop n (piece ++ total)) (front_more text total old between new (drop n (piece ++ total)) piece before (front_taken (piece ++ total) between new n is))

@@ -1,0 +1,11 @@
+pub mod AskLaws
+pub mod BaseLaws
+pub mod FoundLaws
+pub mod FrontLaws
+pub mod LoadLaws
+pub mod LookupLaws
+pub mod NumberLaws
+pub mod NameLaws
+pub mod MadeLaws
+pub mod OpenLaws
+pub mod PlaceLaws

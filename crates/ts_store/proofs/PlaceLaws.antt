@@ -1,0 +1,88 @@
+-- The state and the folder once a base was made.
+use Rattle.std.proofs.Common.{◌≡◌, ◌⊎◌, ℕ, Bool, true, false, cond, List, [], ◌∷◌, ◌++◌, Option, Some, None, IsTrue, IfSome, IfOk, OnOk, Result, Ok, Err, MatchResult, refl, sym, ap, ◌∙◌, subst, inl, inr}
+use Rattle.std.specs.Option.{is_some}
+use Rattle.std.specs.Ordering.{nat_cmp, eq_by_cmp, is_eq}
+use Rattle.std.specs.Cmp.{nat_cmp_total, tied_itself}
+use Rattle.std.specs.FinMap.{empty, insert, contains_key, get, get-insert}
+use Rattle.ts_model.specs.declared.signed.SignedTriple.{SignedTriple}
+use Rattle.ts_model.specs.NetChange.{net_additions}
+use Rattle.ts_model.specs.Sets.{members}
+use Rattle.ts_replace.specs.Names.{layer_name}
+use Rattle.ts_replace.specs.Replaced.{replaced}
+use Rattle.ts_script.specs.Replies.{reply_text, refusal_text}
+use Rattle.ts_script.specs.declared.command.Command.TheVariants as command
+use Rattle.ts_script.specs.declared.reply.Reply.TheVariants as reply
+use Rattle.ts_script.specs.declared.reply.Refusal.TheVariants as refusal
+use Rattle.ts_site.specs.Folder.{Folder}
+use Rattle.ts_store.specs.declared.loaded.Loaded.{Loaded}
+use Rattle.ts_store.specs.declared.stop.Stop.{Stop}
+use Rattle.ts_store.specs.declared.stop.Kind.{Kind}
+use Rattle.ts_store.specs.declared.stop.Kind.TheVariants.{Done}
+use Rattle.ts_store.specs.Doing.{IsMade, IsNewest, AddsBase, KeepsAll, state_of}
+use Rattle.ts_store.specs.FolderSays.{FolderSays}
+use Rattle.ts_store.specs.Loaded.{AreLoaded, history_kept}
+use Rattle.ts_store.specs.State.{State}
+use Rattle.ts_store.specs.Step.{Stepped, does, refuses, with_layer, base_of, next_number, is_numbered, step_of}
+use Rattle.ts_store.specs.Stops.{LeavesFolder, kind_of}
+use Rattle.ts_store.proofs.NumberLaws.{AreLoaded-push, history_kept-push}
+use Rattle.ts_store.proofs.MadeLaws.{record_is, says_made}
+
+module _ (layers : List Loaded) (last : Option ℕ) (body : List SignedTriple) (loaded : Loaded) (file : List ℕ) (are : AreLoaded layers) (newest : IsNewest layers last)
+    (made : IsMade (history_kept layers) body loaded file) where
+  abbrev stepped : Stepped
+  stepped = step_of (state_of layers last) (command.Base body)
+
+  stepped_is : stepped ≡ does (with_layer (state_of layers last) (base_of body)) (reply_text (reply.Layer (next_number (history_kept layers))))
+  stepped_is = ap (λ (b : Bool). cond b (does (with_layer (state_of layers last) (base_of body)) (reply_text (reply.Layer (next_number (history_kept layers))))) (refuses (state_of layers last) refusal.Full)) made.numbered
+
+  module _ (layers_after : List Loaded) (last_after : Option ℕ) where
+    abbrev Adds : Type 0
+    Adds = AddsBase loaded layers last layers_after last_after
+
+    abbrev Keeps : Type 0
+    Keeps = KeepsAll layers last layers_after last_after
+
+    loaded_added : Adds → AreLoaded layers_after
+    loaded_added adds = subst AreLoaded (sym adds.0) (AreLoaded-push layers loaded are made.number made.sound)
+
+    history_added : Adds → history_kept layers_after ≡ insert (history_kept layers) (next_number (history_kept layers)) (base_of body)
+    history_added adds =
+        ap history_kept adds.0 ∙ history_kept-push layers loaded are made.number
+        ∙ (λ i. insert (history_kept layers) (made.number i) (record_is (history_kept layers) body loaded file made i))
+
+    last_added : Adds → last_after ≡ Some (next_number (history_kept layers))
+    last_added adds = adds.1 ∙ ap Some made.number
+
+    newest_added : Adds → IsNewest layers_after last_after
+    newest_added adds =
+        let n = next_number (history_kept layers) in
+        let stands : contains_key (history_kept layers_after) n ≡ true =
+        ap (λ h. contains_key h n) (history_added adds)
+        ∙ ap is_some (get-insert nat_cmp_total (history_kept layers) n (base_of body) n)
+        ∙ ap (λ r. is_some (cond (is_eq r) (Some (base_of body)) (get (history_kept layers) n))) (tied_itself nat_cmp_total n) in
+        subst (IsNewest layers_after) (sym (last_added adds)) stands
+
+    abbrev After : Result Kind Stop → Type 0
+    After result = MatchResult result (λ kind. (kind ≡ Done) × Adds) (λ _. Adds ⊎ Keeps)
+
+    pub loaded_after : (result : Result Kind Stop) → After result → AreLoaded layers_after
+    loaded_after (Ok kind) h = loaded_added h.1
+    loaded_after (Err stop) (inl adds) = loaded_added adds
+    loaded_after (Err stop) (inr keeps) = subst AreLoaded (sym keeps.0) are
+
+    pub newest_after : (result : Result Kind Stop) → After result → IsNewest layers_after last_after
+    newest_after (Ok kind) h = newest_added h.1
+    newest_after (Err stop) (inl adds) = newest_added adds
+    newest_after (Err stop) (inr keeps) = subst (IsNewest layers_after) (sym keeps.1) (subst (λ ls. IsNewest ls last) (sym keeps.0) newest)
+
+    pub state_after : (result : Result Kind Stop) → After result → IfOk result (λ kind. (state_of layers_after last_after ≡ stepped.state) × (kind ≡ kind_of stepped.refused))
+    state_after (Ok kind) h =
+        ((λ i. record { history = history_added h.1 i; last = last_added h.1 i }) ∙ sym (ap (λ (s : Stepped). s.state) stepped_is), h.0 ∙ sym (ap (λ (s : Stepped). kind_of s.refused) stepped_is))
+    state_after (Err stop) h = tt
+
+    pub says_after : (result : Result Kind Stop) (folder after : Folder) → After result → LeavesFolder result (replaced folder (layer_name loaded.number) file) folder after
+        → FolderSays folder (history_kept layers) → OnOk result (FolderSays after (history_kept layers_after))
+    says_after (Ok kind) folder after h left says =
+        subst (λ f. FolderSays f (history_kept layers_after)) (sym (left ∙ ap (λ n. replaced folder (layer_name n) file) made.number))
+        (subst (FolderSays (replaced folder (layer_name (next_number (history_kept layers))) file)) (sym (history_added h.1)) (says_made (history_kept layers) body loaded file made folder says))
+    says_after (Err stop) folder after h left says = tt

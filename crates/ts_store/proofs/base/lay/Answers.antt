@@ -1,0 +1,12 @@
+use Rattle.std.proofs.Common.{sym}
+use Rattle.ts_model.specs.Order.{fact_cmp, fact_cmp_total, fact_cmp-IsAntisymmetric}
+use Rattle.ts_model.specs.Sets.{from_list}
+use Rattle.ts_model.proofs.SetAlgebra.{members-from_rising}
+use Rattle.ts_plain.proofs.RuleLaws.{KeepsPlainRules-of_base}
+use Rattle.ts_store.proofs.base.lay.Goals as goal
+
+pub write_plain-requires : goal.write_plain-requires
+write_plain-requires c =
+    let additions = c.args.additions.items in
+    KeepsPlainRules-of_base c.args.number (from_list {R = fact_cmp} additions) additions c.new.result.items
+    (sym (members-from_rising fact_cmp fact_cmp_total fact_cmp-IsAntisymmetric additions c.requires.rise)) c.new.ensures.items

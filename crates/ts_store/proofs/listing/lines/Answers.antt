@@ -1,0 +1,54 @@
+use Rattle.std.proofs.Common.{◌+◌, ◌∙◌, ap, sym, arith, rules, ℕ}
+use Rattle.ts_model.specs.Fits.{fits}
+use Rattle.ts_nt.specs.TripleLine.{triple_line}
+use Rattle.ts_store.proofs.FrontLaws.{count_below, count_more, count_same, lines_more, lines_ended, text_same}
+use Rattle.ts_store.proofs.listing.lines.Goals as goal
+use Rattle.ts_store.proofs.listing.lines.Goals.{then-fits+in-Ok, else-fits}
+
+pub overflow_add-count : goal.overflow_add-count
+overflow_add-count g c =
+    omega (arith, count_below (fits c.args.pattern.now) triple_line c.args.triples.now c.loop-triple.triple-index c.loop-triple-test.true)
+
+pub returns-in-Err-clause-told : goal.returns-in-Err-clause-told
+returns-in-Err-clause-told g c =
+    let before = c.loop-triple.invariant.told in
+    let now = c.in-Err.ensures.told in (
+      now.0 ∙ before.0,
+      λ told.
+          let said = now.1 (before.0 ∙ told) in
+          lines_ended (fits c.args.pattern.now) triple_line c.args.triples.now c.loop-triple.triple-index c.triple-item.result c.loop-triple-test.true c.triple-item.is (sym c.fits.ensures ∙ c.if-fits.true)
+          (g.W.Disk.told c.args.site.now) (g.W.Disk.told c.loop-triple.site) (g.W.Disk.told c.line.new.site) c.loop-triple.piece.items said.0 (before.1 told) said.1,
+    )
+
+pub loop-triple-preserved : goal.loop-triple-preserved
+loop-triple-preserved g c =
+    let p = fits c.args.pattern.now in
+    let xs = c.args.triples.now in
+    let i = c.loop-triple.triple-index in
+    let x = c.triple-item.result in
+    let before = c.loop-triple.invariant in
+    let below = c.loop-triple-test.true in
+    let is = c.triple-item.is in
+    elim c.if-fits.branch [
+      | then-fits+in-Ok w ↦
+          let e = sym c.fits.ensures ∙ w.if-fits.true in
+          let now = w.in-Ok.ensures.told in
+          rw (w.site-is, w.piece-is, w.count-is) (record {
+            count = ap (λ (n : ℕ). n + 1) before.count ∙ sym (count_more p triple_line xs i x below is e);
+            told = (
+              now.0 ∙ before.told.0,
+              λ told. lines_more p triple_line xs i x below is e (g.W.Disk.told c.args.site.now) (g.W.Disk.told c.loop-triple.site) (g.W.Disk.told w.line.new.site) c.loop-triple.piece.items w.line.new.piece.items
+                  (before.told.1 told) (now.1 (before.told.0 ∙ told)),
+            );
+            say = w.in-Ok.ensures.say ∙ before.say;
+            disk = search rules;
+          })
+      | else-fits w ↦
+          let e = sym c.fits.ensures ∙ w.if-fits.false in
+          rw (w.site-is, w.piece-is, w.count-is) (record {
+            count = before.count ∙ sym (count_same p triple_line xs i x below is e);
+            told = rw (text_same p triple_line xs i x below is e) before.told;
+            say = before.say;
+            disk = before.disk;
+          })
+    ]

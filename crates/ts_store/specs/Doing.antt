@@ -1,0 +1,77 @@
+-- What the parts of a step work on.
+use Rattle.std.specs.Prelude.{◌≡◌, ◌<◌, ℕ, Contains, ◌++◌, ◌∷◌, List, [], All, IsTrue, true, Option, None, Some, IfSome, Result, MatchResult}
+use Rattle.std.specs.FinMap.{empty, contains_key, get}
+use Rattle.ts_model.specs.declared.signed.SignedTriple.{SignedTriple}
+use Rattle.ts_model.specs.Fact.{IsTriple}
+use Rattle.ts_model.specs.History.{History}
+use Rattle.ts_model.specs.NetChange.{net_additions}
+use Rattle.ts_model.specs.Sets.{members, from_list}
+use Rattle.ts_model.specs.Order.{fact_cmp}
+use Rattle.ts_plain.specs.PlainFile.{plain_file}
+use Rattle.ts_replace.specs.Names.{layer_name, rollup_name, label_file_name}
+use Rattle.ts_site.specs.Folder.{Folder}
+use Rattle.ts_store.specs.declared.loaded.Loaded.{Loaded}
+use Rattle.ts_store.specs.declared.stop.Stop.{Stop}
+use Rattle.ts_store.specs.declared.stop.Stop.TheVariants.{Damaged, OutputFault, Memory}
+use Rattle.ts_store.specs.FolderSays.{file_of, IsDamagedLayer}
+use Rattle.ts_store.specs.Loaded.{IsLoaded, base_record, history_kept}
+use Rattle.ts_store.specs.State.{State}
+use Rattle.ts_store.specs.Step.{next_number, is_numbered}
+
+abbrev pub state_of : List Loaded → Option ℕ → State
+state_of layers last = record { history = history_kept layers; last = last }
+
+-- the newest layer stands
+abbrev pub IsNewest : List Loaded → Option ℕ → Type 0
+IsNewest layers last = IfSome last (λ n. IsTrue (contains_key (history_kept layers) n))
+
+-- the base and the file that a body makes in a history
+pub record IsMade (history : History) (body : List SignedTriple) (loaded : Loaded) (file : List ℕ) : Type 0 where
+  pub numbered : is_numbered history (members (net_additions empty body)) ≡ true
+  pub number : loaded.number ≡ next_number history
+  pub sound : IsLoaded loaded
+  pub triples : All IsTriple (members (net_additions empty body))
+  pub same : from_list loaded.triples.items ≡ net_additions empty body
+  pub bytes : file ≡ plain_file (next_number history) None (members (net_additions empty body)) []
+
+-- the stops of a command that leaves the disk alone
+abbrev pub IsAskingStop : Stop → Type 0
+IsAskingStop OutputFault = Unit {0}
+IsAskingStop Memory = Unit {0}
+IsAskingStop _ = ⊥
+
+-- one base more, which is now the newest layer
+abbrev pub AddsBase : Loaded → List Loaded → Option ℕ → List Loaded → Option ℕ → Type 0
+AddsBase loaded layers last layers_after last_after = (layers_after ≡ layers ++ loaded ∷ []) × (last_after ≡ Some loaded.number)
+
+abbrev pub KeepsAll : List Loaded → Option ℕ → List Loaded → Option ℕ → Type 0
+KeepsAll layers last layers_after last_after = (layers_after ≡ layers) × (last_after ≡ last)
+
+-- a front of the text was said, and this is left of it
+abbrev pub SaysFront : List ℕ → List ℕ → List ℕ → List ℕ → Type 0
+SaysFront text old new rest = (said : List ℕ) × (new ≡ old ++ said) × (said ++ rest ≡ text)
+
+-- all but this rest was said, or a front
+abbrev pub SaysSoFar : {T E : Type 0} → Result T E → List ℕ → List ℕ → List ℕ → List ℕ → Type 0
+SaysSoFar result text old new rest = MatchResult result (λ _. SaysFront text old new rest) (λ _. (left : List ℕ) × SaysFront text old new left)
+
+-- the layer's file is that of these triples
+pub record IsReadFrom (folder : Folder) (loaded : Loaded) : Type 0 where
+  pub file : get folder (layer_name loaded.number) ≡ Some (file_of loaded.number (base_record loaded.triples.items))
+  pub triples : All IsTriple (members (from_list {R = fact_cmp} loaded.triples.items))
+
+-- the first damaged one of these layers
+pub record IsFirstOf (folder : Folder) (numbers : List ℕ) (name : List ℕ) : Type 0 where
+  pub number : ℕ
+  pub stands : Contains numbers number
+  pub damaged : IsDamagedLayer folder number
+  pub named : name ≡ layer_name number
+  pub first : (j : ℕ) → Contains numbers j → j < number → IsDamagedLayer folder j → ⊥
+
+-- the first rollup is at fault, or where there is none the first label; or memory ran out
+abbrev pub IsOtherStop : List ℕ → List (List ℕ) → Stop → Type 0
+IsOtherStop (k ∷ rollups) labels (Damaged name) = name ≡ rollup_name k
+IsOtherStop [] (label ∷ labels) (Damaged name) = name ≡ label_file_name label
+IsOtherStop [] [] (Damaged name) = ⊥
+IsOtherStop rollups labels Memory = Unit {0}
+IsOtherStop rollups labels _ = ⊥

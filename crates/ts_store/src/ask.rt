@@ -1,0 +1,81 @@
+// What is asked of a layer.
+ghost use Rattle.std.specs.Prelude.{◌≡◌, IfOk, IfErr};
+ghost use Rattle.ts_site.specs.Output.{IsSameDisk};
+ghost use Rattle.ts_site.specs.Telling.{Tells};
+ghost use Rattle.ts_store.specs.Doing.{IsAskingStop, IsNewest, state_of};
+ghost use Rattle.ts_store.specs.Loaded.{AreLoaded};
+ghost use Rattle.ts_store.specs.Step.{has_text, step_of};
+ghost use Rattle.ts_store.specs.Stops.{CountsSay, LeavesTold, kind_of};
+
+use crate::answer::{refuse, reply};
+use crate::find::resolve;
+use crate::listing::list;
+use crate::loaded::Loaded;
+use crate::order::has;
+use crate::{Kind, Stop};
+use std::alloc::Global;
+use ts_model::{Pattern, Triple};
+use ts_script::{Command, LayerRef, Ref, Refusal, Reply};
+use ts_site::{Disk, Site};
+
+/// Lists the triples of a layer that fit.
+pub(crate) fn list_at<W: Site>(
+    alloc: Global,
+    layers: &[Loaded],
+    last: Option<u32>,
+    site: &mut W,
+    named: LayerRef,
+    pattern: &Pattern,
+) -> Result<Kind, Stop>
+    requires loaded { AreLoaded layers.now }
+    requires newest { IsNewest layers.now last }
+    ensures kind { IfOk result (λ kind. kind ≡ kind_of (step_of (state_of layers.now last) (Command.Listing (Ref.Layer named) pattern.now)).refused) }
+    ensures told { Tells (W.tells_output site.old) (W.tells_output site.new)
+        (LeavesTold result (step_of (state_of layers.now last) (Command.Listing (Ref.Layer named) pattern.now)).told (W.told site.old) (W.told site.new)) }
+    ensures why { IfErr result IsAskingStop }
+    ensures say { CountsSay result (W.say_faults site.old) (W.say_faults site.new) }
+    ensures disk { IsSameDisk W.tells_folder W.now W.disk_faults site.old site.new }
+{
+    match resolve(layers, last, named) {
+        Some(layer) => list(alloc, site, layer.triples.as_slice(), pattern),
+        None => refuse(site, &Refusal::NoLayer(named)),
+    }
+}
+
+/// Tells whether a layer has a triple.
+pub(crate) fn has_at<W: Site>(
+    layers: &[Loaded],
+    last: Option<u32>,
+    site: &mut W,
+    named: LayerRef,
+    triple: &Triple,
+) -> Result<Kind, Stop>
+    requires loaded { AreLoaded layers.now }
+    requires newest { IsNewest layers.now last }
+    ensures kind { IfOk result (λ kind. kind ≡ kind_of (step_of (state_of layers.now last) (Command.Has (Ref.Layer named) triple.now)).refused) }
+    ensures told { Tells (W.tells_output site.old) (W.tells_output site.new)
+        (LeavesTold result (step_of (state_of layers.now last) (Command.Has (Ref.Layer named) triple.now)).told (W.told site.old) (W.told site.new)) }
+    ensures why { IfErr result IsAskingStop }
+    ensures say { CountsSay result (W.say_faults site.old) (W.say_faults site.new) }
+    ensures disk { IsSameDisk W.tells_folder W.now W.disk_faults site.old site.new }
+{
+    match resolve(layers, last, named) {
+        Some(layer) => say_has(site, has(layer.triples.as_slice(), triple)),
+        None => refuse(site, &Refusal::NoLayer(named)),
+    }
+}
+
+fn say_has<W: Site>(site: &mut W, has: bool) -> Result<Kind, Stop>
+    ensures kind { IfOk result (λ kind. kind ≡ Kind.Done) }
+    ensures told { Tells (W.tells_output site.old) (W.tells_output site.new)
+        (LeavesTold result (has_text has) (W.told site.old) (W.told site.new)) }
+    ensures why { IfErr result IsAskingStop }
+    ensures say { CountsSay result (W.say_faults site.old) (W.say_faults site.new) }
+    ensures disk { IsSameDisk W.tells_folder W.now W.disk_faults site.old site.new }
+{
+    if has {
+        reply(site, &Reply::Yes)
+    } else {
+        reply(site, &Reply::No)
+    }
+}

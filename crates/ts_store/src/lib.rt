@@ -1,0 +1,27 @@
+//! A store: the state of a folder, and one command after another.
+//!
+//! - [`Session`] is an open folder: [`Session::open`] reads it, [`Session::step`] does one command and says its reply, and
+//!   [`Session::spent`] tells by what it was ended.
+//! - [`Kind`] is how a command was answered, [`Stop`] why none was.
+//!
+//! The layer above uses that a step is the stated one: the state after it, its reply and its folder are those of the state
+//! before it and the command, and each fault is answered exactly where its count rose.
+#![tactic(auto)]
+
+pub use session::Session;
+pub use stop::{Kind, Stop};
+
+mod answer;
+mod ask;
+mod base;
+mod doing;
+mod find;
+mod listing;
+mod loaded;
+mod open;
+mod order;
+mod place;
+mod session;
+mod stop;
+#[cfg(test)]
+mod tests;

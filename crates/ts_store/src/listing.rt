@@ -1,0 +1,121 @@
+// Listing triples.
+ghost use Rattle.std.specs.Prelude.{◌≡◌, ◌++◌, [], IfOk, IfErr, filter, flat_map, length};
+ghost use Rattle.ts_model.specs.Fits.{fits};
+ghost use Rattle.ts_nt.specs.TripleLine.{triple_line};
+ghost use Rattle.ts_script.specs.Replies.{reply_text};
+ghost use Rattle.ts_site.specs.Output.{IsSameDisk};
+ghost use Rattle.ts_site.specs.Telling.{Tells};
+ghost use Rattle.ts_store.specs.Doing.{IsAskingStop, SaysSoFar};
+ghost use Rattle.ts_store.specs.Step.{listing_text};
+ghost use Rattle.ts_store.specs.Stops.{CountsSay, LeavesTold};
+
+use crate::{Kind, Stop};
+use std::alloc::Global;
+use ts_model::{Pattern, Triple};
+use ts_nt::write_triple;
+use ts_script::{Reply, reply_line};
+use ts_site::{Disk, Site};
+
+/// The fewest bytes of lines that are said at once, but for the last ones.
+const PIECE: usize = 65_536;
+
+/// Says a line for each triple that fits, and then how many they are. It keeps no more of the lines than a piece and a line.
+pub(crate) fn list<W: Site>(
+    alloc: Global,
+    site: &mut W,
+    triples: &[Triple],
+    pattern: &Pattern,
+) -> Result<Kind, Stop>
+    ensures kind { IfOk result (λ kind. kind ≡ Kind.Done) }
+    ensures told { Tells (W.tells_output site.old) (W.tells_output site.new)
+        (LeavesTold result (listing_text (filter (fits pattern.now) triples.now)) (W.told site.old) (W.told site.new)) }
+    ensures why { IfErr result IsAskingStop }
+    ensures say { CountsSay result (W.say_faults site.old) (W.say_faults site.new) }
+    ensures disk { IsSameDisk W.tells_folder W.now W.disk_faults site.old site.new }
+{
+    let mut piece = Vec::new(alloc);
+    match lines(site, triples, pattern, &mut piece) {
+        Err(stop) => Err(stop),
+        Ok(count) => end(site, &mut piece, count),
+    }
+}
+
+/// Says what is left of the lines, and how many they are.
+fn end<W: Site>(site: &mut W, piece: &mut Vec<u8>, count: usize) -> Result<Kind, Stop>
+    ensures kind { IfOk result (λ kind. kind ≡ Kind.Done) }
+    ensures told { Tells (W.tells_output site.old) (W.tells_output site.new)
+        (LeavesTold result (piece.old.items ++ reply_text (Reply.Total count)) (W.told site.old) (W.told site.new)) }
+    ensures why { IfErr result IsAskingStop }
+    ensures say { CountsSay result (W.say_faults site.old) (W.say_faults site.new) }
+    ensures disk { IsSameDisk W.tells_folder W.now W.disk_faults site.old site.new }
+{
+    let line = reply_line(&Reply::Total(count as u128));
+    if piece.extend_from_slice(line.bytes()).is_err() {
+        return Err(Stop::Memory);
+    }
+    match site.say(piece.as_slice()) {
+        Ok(()) => Ok(Kind::Done),
+        Err(_) => Err(Stop::OutputFault),
+    }
+}
+
+/// The lines of the triples that fit: all but what `piece` then holds is said. Gives their number.
+fn lines<W: Site>(
+    site: &mut W,
+    triples: &[Triple],
+    pattern: &Pattern,
+    piece: &mut Vec<u8>,
+) -> Result<usize, Stop>
+    requires { piece.old.items ≡ [] }
+    ensures count { IfOk result (λ count. count ≡ length (filter (fits pattern.now) triples.now)) }
+    ensures told { Tells (W.tells_output site.old) (W.tells_output site.new)
+        (SaysSoFar result (flat_map triple_line (filter (fits pattern.now) triples.now)) (W.told site.old) (W.told site.new) piece.new.items) }
+    ensures why { IfErr result IsAskingStop }
+    ensures say { CountsSay result (W.say_faults site.old) (W.say_faults site.new) }
+    ensures disk { IsSameDisk W.tells_folder W.now W.disk_faults site.old site.new }
+{
+    let mut count = 0;
+    for triple in triples {
+        if pattern.fits(triple) {
+            match line(site, triple, piece) {
+                Err(stop) => return Err(stop),
+                Ok(()) => count += 1,
+            }
+        }
+    }
+    Ok(count)
+}
+
+/// One more line behind those of the piece, which is said once it is long enough.
+fn line<W: Site>(site: &mut W, triple: &Triple, piece: &mut Vec<u8>) -> Result<(), Stop>
+    ensures told { Tells (W.tells_output site.old) (W.tells_output site.new)
+        (SaysSoFar result (piece.old.items ++ triple_line triple.now) (W.told site.old) (W.told site.new) piece.new.items) }
+    ensures why { IfErr result IsAskingStop }
+    ensures say { CountsSay result (W.say_faults site.old) (W.say_faults site.new) }
+    ensures disk { IsSameDisk W.tells_folder W.now W.disk_faults site.old site.new }
+{
+    match write_triple(triple, piece) {
+        Err(_) => Err(Stop::Memory),
+        Ok(()) => say_long(site, piece),
+    }
+}
+
+/// Says the piece if it is long enough, and then starts it anew.
+fn say_long<W: Site>(site: &mut W, piece: &mut Vec<u8>) -> Result<(), Stop>
+    ensures told { Tells (W.tells_output site.old) (W.tells_output site.new)
+        (SaysSoFar result piece.old.items (W.told site.old) (W.told site.new) piece.new.items) }
+    ensures why { IfErr result IsAskingStop }
+    ensures say { CountsSay result (W.say_faults site.old) (W.say_faults site.new) }
+    ensures disk { IsSameDisk W.tells_folder W.now W.disk_faults site.old site.new }
+{
+    if piece.len() < PIECE {
+        return Ok(());
+    }
+    match site.say(piece.as_slice()) {
+        Err(_) => Err(Stop::OutputFault),
+        Ok(()) => {
+            piece.clear();
+            Ok(())
+        }
+    }
+}

@@ -1,0 +1,144 @@
+// Reading a folder.
+ghost use Rattle.std.specs.Prelude.{◌≡◌, ◌⊎◌, ℕ, List, [], All, IsTrue, IfOk, IfErr, OnOk, map};
+ghost use Rattle.std.specs.FinMap.{contains_key};
+ghost use Rattle.std.specs.List.Sorted.{IsStrictlyIncreasing};
+ghost use Rattle.ts_model.specs.Fact.{IsTriple};
+ghost use Rattle.ts_model.specs.Order.{fact_cmp};
+ghost use Rattle.ts_model.specs.Sets.{from_list, members};
+ghost use Rattle.ts_replace.specs.Names.{IsLayerNumber, label_file_name, layer_name, rollup_name};
+ghost use Rattle.ts_replace.specs.Scanned.{AreThoseOf, Rise};
+ghost use Rattle.ts_site.specs.Output.{IsSameOutput};
+ghost use Rattle.ts_site.specs.Telling.{Tells};
+ghost use Rattle.ts_store.specs.Doing.{IsFirstOf, IsOtherStop, IsReadFrom};
+ghost use Rattle.ts_store.specs.FolderSays.{FolderSays, IsBaseFile, IsDamagedLayer, IsFirstDamaged, file_of};
+ghost use Rattle.ts_store.specs.Loaded.{AreLoaded, IsLoaded, base_record, history_kept};
+ghost use Rattle.ts_store.specs.Stops.{CountsDisk, IsOpeningStop};
+
+use crate::Stop;
+use crate::loaded::{Loaded, load};
+use std::alloc::Global;
+use ts_plain::{PlainError, read_plain};
+use ts_replace::{Folder, ScanFail, label_file, layer_file, read_file, rollup_file};
+use ts_site::{Disk, Site};
+
+/// Settles what reads, and reads every layer file of the folder.
+pub(crate) fn read_folder<W: Site>(alloc: Global, site: &mut W) -> Result<Vec<Loaded>, Stop>
+    ensures loaded { IfOk result (λ layers. AreLoaded layers.items) }
+    ensures folder { Tells (W.tells_folder site.old) (W.tells_folder site.new) ((W.now site.new ≡ W.now site.old)
+        × IfOk result (λ layers. FolderSays (W.now site.old) (history_kept layers.items))
+        × IfErr result (λ stop. (name : List ℕ) → stop ≡ Stop.Damaged name → IsFirstDamaged (W.now site.old) name)) }
+    ensures why { IfErr result IsOpeningStop }
+    ensures counts { CountsDisk result (W.disk_faults site.old) (W.disk_faults site.new) }
+    ensures output { IsSameOutput W.tells_output W.told W.say_faults site.old site.new }
+{
+    match site.barrier() {
+        Err(_) => Err(Stop::DiskFault),
+        Ok(()) => match Folder::scan(alloc, site) {
+            Err(ScanFail::Failed) => Err(Stop::DiskFault),
+            Err(ScanFail::Memory) => Err(Stop::Memory),
+            Ok(found) => read_found(alloc, site, &found),
+        },
+    }
+}
+
+/// Reads what a scan found.
+fn read_found<W: Site>(alloc: Global, site: &mut W, found: &Folder) -> Result<Vec<Loaded>, Stop>
+    requires rise { Rise found.now.layers.items found.now.rollups.items found.now.labels.items }
+    requires numbers { All IsLayerNumber found.now.layers.items }
+    requires those { IsTrue (W.tells_folder site.old) → AreThoseOf (W.now site.old) found.now.layers.items found.now.rollups.items found.now.labels.items }
+    ensures loaded { IfOk result (λ layers. AreLoaded layers.items) }
+    ensures folder { Tells (W.tells_folder site.old) (W.tells_folder site.new) ((W.now site.new ≡ W.now site.old)
+        × IfOk result (λ layers. FolderSays (W.now site.old) (history_kept layers.items))
+        × IfErr result (λ stop. (name : List ℕ) → stop ≡ Stop.Damaged name → IsFirstDamaged (W.now site.old) name)) }
+    ensures why { IfErr result IsOpeningStop }
+    ensures counts { CountsDisk result (W.disk_faults site.old) (W.disk_faults site.new) }
+    ensures output { IsSameOutput W.tells_output W.told W.say_faults site.old site.new }
+{
+    match read_layers(alloc, site, found.layers.as_slice()) {
+        Err(stop) => Err(stop),
+        Ok(layers) => match no_others(alloc, found) {
+            Err(stop) => Err(stop),
+            Ok(()) => Ok(layers),
+        },
+    }
+}
+
+/// A rollup or a label is at fault: the first rollup, or else the first label.
+fn no_others(alloc: Global, found: &Folder) -> Result<(), Stop>
+    ensures ok { OnOk result ((found.now.rollups.items ≡ []) × (found.now.labels.items ≡ [])) }
+    ensures err { IfErr result (IsOtherStop found.now.rollups.items found.now.labels.items) }
+{
+    if let Some(number) = found.rollups.first() {
+        return Err(Stop::Damaged(rollup_file(*number)));
+    }
+    if let Some(label) = found.labels.first() {
+        return match label_file(alloc, label) {
+            Err(_) => Err(Stop::Memory),
+            Ok(name) => Err(Stop::Damaged(name)),
+        };
+    }
+    Ok(())
+}
+
+/// Reads the layers of these numbers, which rise.
+fn read_layers<W: Site>(alloc: Global, site: &mut W, numbers: &[u32]) -> Result<Vec<Loaded>, Stop>
+    requires rise { IsStrictlyIncreasing numbers.now }
+    requires numbers { All IsLayerNumber numbers.now }
+    requires stand { IsTrue (W.tells_folder site.old) → All (λ n. IsTrue (contains_key (W.now site.old) (layer_name n))) numbers.now }
+    ensures numbers { IfOk result (λ layers. map (λ loaded. loaded.number) layers.items ≡ numbers.now) }
+    ensures loaded { IfOk result (λ layers. AreLoaded layers.items) }
+    ensures folder { Tells (W.tells_folder site.old) (W.tells_folder site.new) ((W.now site.new ≡ W.now site.old)
+        × IfOk result (λ layers. All (IsReadFrom (W.now site.old)) layers.items)
+        × IfErr result (λ stop. (name : List ℕ) → stop ≡ Stop.Damaged name → IsFirstOf (W.now site.old) numbers.now name)) }
+    ensures why { IfErr result IsOpeningStop }
+    ensures counts { CountsDisk result (W.disk_faults site.old) (W.disk_faults site.new) }
+    ensures output { IsSameOutput W.tells_output W.told W.say_faults site.old site.new }
+{
+    let mut layers = Vec::new(alloc);
+    for number in numbers {
+        match read_layer(alloc, site, *number) {
+            Err(stop) => return Err(stop),
+            Ok(loaded) => match layers.push(loaded) {
+                Err(_) => return Err(Stop::Memory),
+                Ok(()) => {}
+            },
+        }
+    }
+    Ok(layers)
+}
+
+/// Reads the layer of a number.
+fn read_layer<W: Site>(alloc: Global, site: &mut W, number: u32) -> Result<Loaded, Stop>
+    requires number { IsLayerNumber number }
+    requires stands { IsTrue (W.tells_folder site.old) → IsTrue (contains_key (W.now site.old) (layer_name number)) }
+    ensures loaded { IfOk result (λ loaded. (loaded.number ≡ number) × IsLoaded loaded) }
+    ensures folder { Tells (W.tells_folder site.old) (W.tells_folder site.new) ((W.now site.new ≡ W.now site.old)
+        × IfOk result (IsReadFrom (W.now site.old))
+        × IfErr result (λ stop. (name : List ℕ) → stop ≡ Stop.Damaged name → IsDamagedLayer (W.now site.old) number × (name ≡ layer_name number))) }
+    ensures why { IfErr result IsOpeningStop }
+    ensures counts { CountsDisk result (W.disk_faults site.old) (W.disk_faults site.new) }
+    ensures output { IsSameOutput W.tells_output W.told W.say_faults site.old site.new }
+{
+    match read_file(alloc, site, &layer_file(number)) {
+        Err(ScanFail::Failed) => Err(Stop::DiskFault),
+        Err(ScanFail::Memory) => Err(Stop::Memory),
+        Ok(bytes) => load_file(alloc, bytes.as_slice(), number),
+    }
+}
+
+/// The layer of a number whose file the bytes are.
+fn load_file(alloc: Global, bytes: &[u8], number: u32) -> Result<Loaded, Stop>
+    requires { IsLayerNumber number }
+    ensures loaded { IfOk result (λ loaded. (loaded.number ≡ number) × IsLoaded loaded) }
+    ensures file { IfOk result (λ loaded. (bytes.now ≡ file_of number (base_record loaded.triples.items)) × All IsTriple (members (from_list {R = fact_cmp} loaded.triples.items))) }
+    ensures err { IfErr result (λ stop. (stop ≡ Stop.Memory) ⊎ ((stop ≡ Stop.Damaged (layer_name number)) × (IsBaseFile number bytes.now → ⊥))) }
+{
+    match read_plain(alloc, bytes, number) {
+        Err(PlainError::Memory) => Err(Stop::Memory),
+        Err(PlainError::NotPlain) => Err(Stop::Damaged(layer_file(number))),
+        Ok(layer) => match layer.parent {
+            Some(_) => Err(Stop::Damaged(layer_file(number))),
+            None => Ok(load(number, layer.additions)),
+        },
+    }
+}

@@ -1,0 +1,95 @@
+// Giving a folder a base layer.
+ghost use Rattle.std.specs.Prelude.{◌≡◌, ◌⊎◌, ◌<◌, ◌∷◌, ◌++◌, [], IsTrue, IfOk, IfErr, OnOk, MatchResult, vec_len, vec_capacity};
+ghost use Rattle.ts_replace.specs.Names.{layer_name};
+ghost use Rattle.ts_replace.specs.Replaced.{replaced};
+ghost use Rattle.ts_script.specs.Replies.{reply_text};
+ghost use Rattle.ts_site.specs.Telling.{Tells};
+ghost use Rattle.ts_store.specs.Doing.{AddsBase, IsNewest, KeepsAll, state_of};
+ghost use Rattle.ts_store.specs.FolderSays.{FolderSays};
+ghost use Rattle.ts_store.specs.Loaded.{AreLoaded, history_kept};
+ghost use Rattle.ts_store.specs.Step.{step_of};
+ghost use Rattle.ts_store.specs.Stops.{CountsDisk, CountsSay, IsStepStop, LeavesFolder, LeavesTold, folder_of, kind_of};
+
+use crate::answer::{refuse, reply};
+use crate::base::{Made, make};
+use crate::loaded::Loaded;
+use crate::{Kind, Stop};
+use std::alloc::Global;
+use ts_model::SignedTriple;
+use ts_replace::{layer_file, replace};
+use ts_script::{Command, Refusal, Reply};
+use ts_site::{Disk, Site};
+
+/// Makes the base layer of a body, and says its reply. It takes all its memory before it writes.
+pub(crate) fn make_base<W: Site>(
+    alloc: Global,
+    layers: &mut Vec<Loaded>,
+    last: &mut Option<u32>,
+    site: &mut W,
+    body: &[SignedTriple],
+) -> Result<Kind, Stop>
+    requires loaded { AreLoaded layers.old.items }
+    requires newest { IsNewest layers.old.items last.old }
+    ensures loaded { AreLoaded layers.new.items }
+    ensures newest { IsNewest layers.new.items last.new }
+    ensures state { let stepped = step_of (state_of layers.old.items last.old) (Command.Base body.now) in
+        IfOk result (λ kind. (state_of layers.new.items last.new ≡ stepped.state) × (kind ≡ kind_of stepped.refused)) }
+    ensures told { Tells (W.tells_output site.old) (W.tells_output site.new)
+        (LeavesTold result (step_of (state_of layers.old.items last.old) (Command.Base body.now)).told (W.told site.old) (W.told site.new)) }
+    ensures folder { Tells (W.tells_folder site.old) (W.tells_folder site.new)
+        (LeavesFolder result (folder_of (W.now site.old) (state_of layers.old.items last.old) (Command.Base body.now)) (W.now site.old) (W.now site.new)) }
+    ensures says { IsTrue (W.tells_folder site.old) → FolderSays (W.now site.old) (history_kept layers.old.items)
+        → OnOk result (FolderSays (W.now site.new) (history_kept layers.new.items)) }
+    ensures why { IfErr result IsStepStop }
+    ensures disk { CountsDisk result (W.disk_faults site.old) (W.disk_faults site.new) }
+    ensures say { CountsSay result (W.say_faults site.old) (W.say_faults site.new) }
+{
+    match make(alloc, layers.as_slice(), body) {
+        Err(_) => Err(Stop::Memory),
+        Ok(None) => refuse(site, &Refusal::Full),
+        Ok(Some(made)) => {
+            if layers.reserve(1).is_err() {
+                return Err(Stop::Memory);
+            }
+            place(layers, last, site, made)
+        }
+    }
+}
+
+/// Gives the folder the file of a layer, then keeps the layer, then says its reply.
+fn place<W: Site>(
+    layers: &mut Vec<Loaded>,
+    last: &mut Option<u32>,
+    site: &mut W,
+    made: Made,
+) -> Result<Kind, Stop>
+    requires { vec_len layers.old < vec_capacity layers.old }
+    ensures layers { MatchResult result (λ kind. (kind ≡ Kind.Done) × AddsBase made.loaded layers.old.items last.old layers.new.items last.new)
+        (λ _. AddsBase made.loaded layers.old.items last.old layers.new.items last.new ⊎ KeepsAll layers.old.items last.old layers.new.items last.new) }
+    ensures told { Tells (W.tells_output site.old) (W.tells_output site.new)
+        (LeavesTold result (reply_text (Reply.Layer made.loaded.number)) (W.told site.old) (W.told site.new)) }
+    ensures folder { Tells (W.tells_folder site.old) (W.tells_folder site.new)
+        (LeavesFolder result (replaced (W.now site.old) (layer_name made.loaded.number) made.file.items) (W.now site.old) (W.now site.new)) }
+    ensures why { IfErr result IsStepStop }
+    ensures disk { CountsDisk result (W.disk_faults site.old) (W.disk_faults site.new) }
+    ensures say { CountsSay result (W.say_faults site.old) (W.say_faults site.new) }
+{
+    let number = made.loaded.number;
+    if replace(site, &layer_file(number), &made.file).is_err() {
+        return Err(Stop::DiskFault);
+    }
+    keep(layers, made.loaded);
+    *last = Some(number);
+    reply(site, &Reply::Layer(number))
+}
+
+/// Keeps a layer for which there is room.
+fn keep(layers: &mut Vec<Loaded>, loaded: Loaded)
+    requires { vec_len layers.old < vec_capacity layers.old }
+    ensures { layers.new.items ≡ layers.old.items ++ loaded ∷ [] }
+{
+    match layers.push(loaded) {
+        Ok(()) => {}
+        Err(_) => unreachable!(),
+    }
+}
