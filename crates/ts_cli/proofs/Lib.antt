@@ -1,2 +1,2 @@
-pub mod FolderLemmas
+pub mod EndsLemmas
 pub mod InputLemmas

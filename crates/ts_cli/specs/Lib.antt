@@ -1,6 +1,3 @@
-pub mod Answers
-pub mod Base
-pub mod Failing
+pub mod Ends
 pub mod Outcomes
-pub mod Plan
 pub mod StopText

@@ -1,10 +1,11 @@
 -- The line that tells of a stop.
 use Rattle.std.specs.Prelude.{ℕ, List, [], ◌∷◌, ◌++◌, codes}
-use Rattle.ts_cli.specs.declared.outcome.Stop.{Stop}
-use Rattle.ts_cli.specs.declared.outcome.Stop.TheVariants.{Usage, DiskFault, InputFault, OutputFault, InputLimit, Memory}
+use Rattle.ts_store.specs.declared.stop.Stop.{Stop}
+use Rattle.ts_store.specs.declared.stop.Stop.TheVariants.{Usage, Damaged, DiskFault, InputFault, OutputFault, InputLimit, Memory}
 
 abbrev pub stop_words : Stop → List ℕ
 stop_words Usage = codes "usage"
+stop_words (Damaged name) = codes "damaged " ++ name
 stop_words DiskFault = codes "disk fault"
 stop_words InputFault = codes "input fault"
 stop_words OutputFault = codes "output fault"

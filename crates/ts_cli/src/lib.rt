@@ -6,14 +6,15 @@
 //! - [`stop_line`] spells a stop as a [`StopLine`].
 //!
 //! The contract that the program uses is `run`'s: what was told is the reply of the step that the words and the
-//! input ask for, the folder is the one after it, and each other answer has its cause.
+//! input ask for, from the history that the folder tells; the folder is the one after it, and each other answer has
+//! its cause.
 #![tactic(auto)]
 
-mod base;
 mod outcome;
 mod running;
 #[cfg(test)]
 mod tests;
 
-pub use outcome::{Outcome, Stop, StopLine, stop_line};
-pub use running::{run, stopped};
+pub use outcome::{Outcome, StopLine, stop_line, stopped};
+pub use running::run;
+pub use ts_store::Stop;

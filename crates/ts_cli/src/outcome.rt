@@ -1,32 +1,51 @@
 // How a run ends.
-ghost use Rattle.std.specs.Prelude.{◌≡◌};
+ghost use Rattle.std.specs.Prelude.{◌≡◌, Err, Ok};
+ghost use Rattle.ts_cli.specs.Outcomes.{outcome_of, stop_status};
 ghost use Rattle.ts_cli.specs.StopText.{stop_text};
 
 use ts_script::ReplyLine;
-
-/// Why a run ended before all was done.
-#[derive(Clone, Copy, Debug, PartialEq, Eq)]
-pub enum Stop {
-    /// The words are no command.
-    Usage,
-    /// The disk failed.
-    DiskFault,
-    /// The input failed.
-    InputFault,
-    /// The output failed.
-    OutputFault,
-    /// The input has 2^40 bytes or more.
-    InputLimit,
-    /// Memory ran out.
-    Memory,
-}
+use ts_site::FileName;
+use ts_store::{Kind, Stop};
 
 /// What a run came to: its exit status, how many steps were told whole, and why it stopped, if it did.
-#[derive(Clone, Copy, Debug)]
+#[derive(Debug, Drop)]
 pub struct Outcome {
     pub status: u8,
     pub done: u128,
     pub stop: Option<Stop>,
+}
+
+/// A run whose one step was answered.
+pub(crate) fn answered(kind: Kind) -> Outcome
+    ensures { result ≡ outcome_of (Ok kind) }
+{
+    Outcome {
+        status: match kind {
+            Kind::Done => 0,
+            Kind::Refused => 1,
+        },
+        done: 1,
+        stop: None,
+    }
+}
+
+/// A run that stopped before a reply was told whole.
+pub fn stopped(stop: Stop) -> Outcome
+    ensures { result ≡ outcome_of (Err stop) }
+{
+    Outcome {
+        status: match &stop {
+            Stop::Usage => 2,
+            Stop::Damaged(_) => 3,
+            Stop::DiskFault => 4,
+            Stop::InputFault => 5,
+            Stop::OutputFault => 6,
+            Stop::Memory => 7,
+            Stop::InputLimit => 8,
+        },
+        done: 0,
+        stop: Some(stop),
+    }
 }
 
 /// A line for the standard error, in a fixed array.
@@ -37,6 +56,7 @@ pub fn stop_line(stop: &Stop) -> StopLine
     ensures { result ≡ stop_text stop.now }
 {
     let words = match stop {
+        Stop::Damaged(name) => return damaged_line(name),
         Stop::Usage => b"usage\n".as_slice(),
         Stop::DiskFault => b"disk fault\n",
         Stop::InputFault => b"input fault\n",
@@ -45,4 +65,15 @@ pub fn stop_line(stop: &Stop) -> StopLine
         Stop::Memory => b"want of memory\n",
     };
     ReplyLine::new().with(b"tstore: ").with(words)
+}
+
+/// The line that tells of a file that isn't what its name says.
+fn damaged_line(name: &FileName) -> StopLine
+    ensures { result ≡ stop_text (Stop.Damaged name.now) }
+{
+    ReplyLine::new()
+        .with(b"tstore: ")
+        .with(b"damaged ")
+        .with(name.bytes())
+        .with(b"\n")
 }

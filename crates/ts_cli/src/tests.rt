@@ -1,7 +1,7 @@
 use super::*;
 use std::alloc::Global;
 use std::test::Fail;
-use ts_site::{FileName, MemorySite, MemorySource};
+use ts_site::{CallKind, FaultKind, FileName, MemorySite, MemorySource};
 
 /// Runs words over a folder in memory.
 fn run_words(
@@ -27,7 +27,7 @@ fn the_first_layer_is_made(rt: HostRuntime) -> Result<(), Fail> {
     let alloc = rt.alloc();
     let mut site = MemorySite::new(alloc, 20, 1000)?;
     let outcome = run_words(alloc, &mut site, &["base"], b"<a> <p> <b> .\n")?;
-    assert_eq!(rt; outcome.stop, None);
+    assert!(rt; outcome.stop.is_none());
     assert_eq!(rt; outcome.status, 0);
     assert_eq!(rt; outcome.done, 1);
     assert_eq!(rt; site.told(), b"layer 00000001\n".as_slice());
@@ -213,7 +213,7 @@ fn a_line_over_its_limit(rt: HostRuntime) -> Result<(), Fail> {
 /// Whether words are answered as no command.
 fn is_usage(alloc: Global, site: &mut MemorySite, words: &[&str]) -> Result<bool, Fail> {
     let outcome = run_words(alloc, site, words, b"<a> <p> <b> .\n")?;
-    Ok(outcome.stop == Some(Stop::Usage) && outcome.status == 2)
+    Ok(matches!(&outcome.stop, Some(Stop::Usage)) && outcome.status == 2 && outcome.done == 0)
 }
 
 #[test]
@@ -225,6 +225,16 @@ fn other_words_touch_nothing(rt: HostRuntime) -> Result<(), Fail> {
     assert!(rt; is_usage(alloc, &mut site, &["base", "base"])?);
     assert!(rt; is_usage(alloc, &mut site, &["Base"])?);
     assert!(rt; is_usage(alloc, &mut site, &[""])?);
+    assert!(rt; is_usage(alloc, &mut site, &["list", "1"])?);
+    assert!(rt; is_usage(alloc, &mut site, &["list", "00000001", "last"])?);
+    assert!(rt; is_usage(alloc, &mut site, &["has", "00000001", "<a>", "<p>"])?);
+    assert!(rt;
+        is_usage(
+            alloc,
+            &mut site,
+            &["has", "00000001", "\"a\"", "<p>", "<b>"]
+        )?
+    );
     assert_eq!(rt; site.room(), (20, 1000));
     Ok(())
 }
@@ -253,16 +263,227 @@ fn seven_calls_make_a_layer(rt: HostRuntime) -> Result<(), Fail> {
     Ok(())
 }
 
+/// Whether words are answered with this status and this text, over a folder in memory and an empty input.
+fn answers(
+    alloc: Global,
+    site: &mut MemorySite,
+    words: &[&str],
+    status: u8,
+    wanted: &[u8],
+) -> Result<bool, Fail> {
+    let before = site.told().len();
+    let outcome = run_words(alloc, site, words, b"")?;
+    Ok(
+        outcome.status == status
+            && outcome.done == 1
+            && outcome.stop.is_none()
+            && site.told().get(before..) == Some(wanted),
+    )
+}
+
+#[test]
+fn a_layer_is_listed_and_asked(rt: HostRuntime) -> Result<(), Fail> {
+    let alloc = rt.alloc();
+    let (status, mut site) = base_of(alloc, b"<a> <p> <b> .\n", 10_000)?;
+    assert_eq!(rt; status, 0);
+    assert!(rt;
+        answers(
+            alloc,
+            &mut site,
+            &["list", "00000001"],
+            0,
+            b"<a> <p> <b> .\ntotal 1\n"
+        )?
+    );
+    assert!(rt;
+        answers(
+            alloc,
+            &mut site,
+            &["has", "00000001", "<a>", "<p>", "<b>"],
+            0,
+            b"yes\n"
+        )?
+    );
+    assert!(rt;
+        answers(
+            alloc,
+            &mut site,
+            &["has", "00000001", "<a>", "<p>", "<c>"],
+            0,
+            b"no\n"
+        )?
+    );
+    Ok(())
+}
+
+#[test]
+fn no_other_layer_stands(rt: HostRuntime) -> Result<(), Fail> {
+    let alloc = rt.alloc();
+    let (status, mut site) = base_of(alloc, b"<a> <p> <b> .\n", 10_000)?;
+    assert_eq!(rt; status, 0);
+    assert!(rt;
+        answers(
+            alloc,
+            &mut site,
+            &["list", "00000002"],
+            1,
+            b"refused no-layer 00000002\n"
+        )?
+    );
+    assert!(rt;
+        answers(
+            alloc,
+            &mut site,
+            &["list", "last"],
+            1,
+            b"refused no-layer last\n"
+        )?
+    );
+    assert!(rt;
+        answers(
+            alloc,
+            &mut site,
+            &["has", "last", "<a>", "<p>", "<b>"],
+            1,
+            b"refused no-layer last\n"
+        )?
+    );
+    Ok(())
+}
+
+#[test]
+fn a_second_base_is_the_next_layer(rt: HostRuntime) -> Result<(), Fail> {
+    let alloc = rt.alloc();
+    let (status, mut site) = base_of(alloc, b"<a> <p> <b> .\n", 10_000)?;
+    assert_eq!(rt; status, 0);
+    let outcome = run_words(alloc, &mut site, &["base"], b"<c> <p> <d> .\n")?;
+    assert_eq!(rt; outcome.status, 0);
+    assert_eq!(rt; site.told(), b"layer 00000001\nlayer 00000002\n".as_slice());
+    assert_eq!(rt;
+        file(&site, b"00000001.layer")?,
+        Some(b"plain 00000001 none\n+ <a> <p> <b> .\n".as_slice())
+    );
+    assert_eq!(rt;
+        file(&site, b"00000002.layer")?,
+        Some(b"plain 00000002 none\n+ <c> <p> <d> .\n".as_slice())
+    );
+    assert!(rt;
+        answers(
+            alloc,
+            &mut site,
+            &["list", "00000002"],
+            0,
+            b"<c> <p> <d> .\ntotal 1\n"
+        )?
+    );
+    Ok(())
+}
+
+/// Whether the base of an input is listed so.
+fn lists(alloc: Global, input: &[u8], wanted: &[u8]) -> Result<bool, Fail> {
+    let (status, mut site) = base_of(alloc, input, 10_000)?;
+    Ok(status == 0 && answers(alloc, &mut site, &["list", "00000001"], 0, wanted)?)
+}
+
+#[test]
+fn a_page_is_listed_in_birth_order(rt: HostRuntime) -> Result<(), Fail> {
+    assert!(rt;
+        lists(
+            rt.alloc(),
+            b"<http://example.org/cafe> <http://www.w3.org/2000/01/rdf-schema#label> \"Caf\\u00E9 \\\"X\\\"\"@fr .\r\n<http://example.org/cafe> <http://www.w3.org/1999/02/22-rdf-syntax-ns#type> <http://example.org/Cafe> .\r\n<http://example.org/cafe> <http://example.org/seats> \"42\"^^<http://www.w3.org/2001/XMLSchema#integer> .\r\n",
+            b"<http://example.org/cafe> <http://example.org/seats> \"42\"^^<http://www.w3.org/2001/XMLSchema#integer> .\n<http://example.org/cafe> <http://www.w3.org/1999/02/22-rdf-syntax-ns#type> <http://example.org/Cafe> .\n<http://example.org/cafe> <http://www.w3.org/2000/01/rdf-schema#label> \"Caf\xC3\xA9 \\\"X\\\"\"@fr .\ntotal 3\n"
+        )?
+    );
+    Ok(())
+}
+
+#[test]
+fn a_node_is_listed_before_a_value(rt: HostRuntime) -> Result<(), Fail> {
+    let alloc = rt.alloc();
+    let input = b"<q> <q> \"<q>\" .\n<q> <q> <q> .\n";
+    assert!(rt;
+        makes(
+            alloc,
+            input,
+            b"plain 00000001 none\n+ <q> <q> \"<q>\" .\n+ <q> <q> <q> .\n"
+        )?
+    );
+    assert!(rt; lists(alloc, input, b"<q> <q> <q> .\n<q> <q> \"<q>\" .\ntotal 2\n")?);
+    Ok(())
+}
+
+#[test]
+fn nine_nodes_are_listed(rt: HostRuntime) -> Result<(), Fail> {
+    assert!(rt;
+        lists(
+            rt.alloc(),
+            b"<n9> <p> <n1> .\n<n8> <p> <n1> .\n<n7> <p> <n1> .\n<n6> <p> <n1> .\n<n5> <p> <n1> .\n<n4> <p> <n1> .\n<n3> <p> <n1> .\n<n2> <p> <n1> .\n<n1> <p> <n1> .\n",
+            b"<n1> <p> <n1> .\n<n2> <p> <n1> .\n<n3> <p> <n1> .\n<n4> <p> <n1> .\n<n5> <p> <n1> .\n<n6> <p> <n1> .\n<n7> <p> <n1> .\n<n8> <p> <n1> .\n<n9> <p> <n1> .\ntotal 9\n"
+        )?
+    );
+    Ok(())
+}
+
+#[test]
+fn an_output_that_fails_leaves_the_layer(rt: HostRuntime) -> Result<(), Fail> {
+    let alloc = rt.alloc();
+    let mut site = MemorySite::new(alloc, 20, 1000)?;
+    site.fail(CallKind::Say, 1, FaultKind::Nothing)?;
+    let outcome = run_words(alloc, &mut site, &["base"], b"<a> <p> <b> .\n")?;
+    assert!(rt; matches!(&outcome.stop, Some(Stop::OutputFault)));
+    assert_eq!(rt; outcome.status, 6);
+    assert_eq!(rt; outcome.done, 0);
+    assert_eq!(rt; site.told(), b"".as_slice());
+    assert_eq!(rt;
+        file(&site, b"00000001.layer")?,
+        Some(b"plain 00000001 none\n+ <a> <p> <b> .\n".as_slice())
+    );
+    Ok(())
+}
+
+#[test]
+fn an_input_that_fails_changes_nothing(rt: HostRuntime) -> Result<(), Fail> {
+    let alloc = rt.alloc();
+    let mut site = MemorySite::new(alloc, 20, 1000)?;
+    let mut source = MemorySource::new(alloc, b"<a> <p> <b> .\n")?;
+    source.fail(2);
+    let words = vec![in alloc; String::from_str(alloc, "base")?]?;
+    let outcome = run(alloc, &words, &mut site, &mut source);
+    assert!(rt; matches!(&outcome.stop, Some(Stop::InputFault)));
+    assert_eq!(rt; outcome.status, 5);
+    assert_eq!(rt; outcome.done, 0);
+    assert_eq!(rt; site.room(), (20, 1000));
+    Ok(())
+}
+
+#[test]
+fn a_damaged_file_is_named(rt: HostRuntime) -> Result<(), Fail> {
+    let alloc = rt.alloc();
+    let mut site = MemorySite::new(alloc, 20, 1000)?;
+    let name = FileName::of(b"00000001.layer").ok_or("name")?;
+    site.put_file(&name, b"plain 00000001 none\n+ <a> <p> <b>\n")?;
+    let outcome = run_words(alloc, &mut site, &["list", "00000001"], b"")?;
+    assert_eq!(rt; outcome.status, 3);
+    assert_eq!(rt; outcome.done, 0);
+    let stop = outcome.stop.as_ref().ok_or("stop")?;
+    assert_eq!(rt;
+        stop_line(stop).bytes(),
+        b"tstore: damaged 00000001.layer\n".as_slice()
+    );
+    assert_eq!(rt; site.told(), b"".as_slice());
+    Ok(())
+}
+
 #[test]
 fn each_stop_has_its_line(rt: HostRuntime) {
     for (stop, line) in [
-        (Stop::Usage, b"tstore: usage\n".as_slice()),
-        (Stop::DiskFault, b"tstore: disk fault\n"),
-        (Stop::InputFault, b"tstore: input fault\n"),
-        (Stop::OutputFault, b"tstore: output fault\n"),
-        (Stop::InputLimit, b"tstore: input limit\n"),
-        (Stop::Memory, b"tstore: want of memory\n"),
+        (&Stop::Usage, b"tstore: usage\n".as_slice()),
+        (&Stop::DiskFault, b"tstore: disk fault\n"),
+        (&Stop::InputFault, b"tstore: input fault\n"),
+        (&Stop::OutputFault, b"tstore: output fault\n"),
+        (&Stop::InputLimit, b"tstore: input limit\n"),
+        (&Stop::Memory, b"tstore: want of memory\n"),
     ] {
-        assert_eq!(rt; stop_line(&stop).bytes(), line);
+        assert_eq!(rt; stop_line(stop).bytes(), line);
     }
 }

@@ -1,29 +1,35 @@
-use Rattle.std.proofs.Common.{◌∙◌, refl}
-use Rattle.ts_cli.proofs.FolderLemmas.{is_free, is_taken, base_does}
+use Rattle.std.proofs.Common.{sym, subst, List, ℕ}
+use Rattle.ts_site.specs.Folder.{Folder}
+use Rattle.ts_store.specs.Kept.{state_kept}
+use Rattle.ts_store.specs.Step.{step_of}
+use Rattle.ts_store.specs.Stops.{LeavesFolder, LeavesTold, folder_of}
+use Rattle.ts_store.specs.FolderSays.{FolderSays}
+use Rattle.ts_cli.specs.Ends.{Scene}
+use Rattle.ts_cli.proofs.EndsLemmas.{does_step, ends_step}
 use Rattle.ts_cli.proofs.running.step.Goals as goal
 
-pub returns-then-is_occupied-clause-folder : goal.returns-then-is_occupied-clause-folder
-returns-then-is_occupied-clause-folder g c =
-    let found = c.in_ok-folder.folder in (
-      c.in_ok-folder.ensures.folder.0,
-      λ told. (
-        refl,
-        is_taken (g.W.Disk.now c.args.site.now) found.layers.items found.rollups.items found.labels.items (c.in_ok-folder.ensures.folder.1 told).1 (c.is_occupied.ensures.some c.if-is_occupied.true),
-        c.in-Base.body,
-        c.in-Base.is,
-        (c.in_ok-folder.ensures.folder.1 told).0,
-      ),
-    )
-
-pub returns-in-Base-clause-folder : goal.returns-in-Base-clause-folder
-returns-in-Base-clause-folder g c =
-    let found = c.in_ok-folder.folder in
-    let opened = c.in_ok-folder.ensures.folder in
-    let none = c.is_occupied.ensures.none c.if-is_occupied.false in (
-      c.make_base.ensures.folder.0 ∙ opened.0,
-      λ told.
-          let seen = opened.1 told in
-          let made = rw seen.0 at (c.make_base.ensures.folder.1 (rw opened.0 told)) in
-          rw c.in-Base.is (base_does (g.W.Disk.now c.args.site.now) c.in-Base.body c.make_base.result (g.W.Disk.now c.make_base.new.site)
-          (is_free (g.W.Disk.now c.args.site.now) found.layers.items found.rollups.items found.labels.items seen.1 none.0 none.1 none.2) made),
-    )
+pub returns-clause-ends : goal.returns-clause-ends
+returns-clause-ends g c =
+    let session = c.in_ok-session.session in
+    let opening = c.in_ok-session.ensures in
+    let fresh = opening.fresh.1 in
+    let asked = c.args.command.now in
+    let kept = state_kept session in
+    let new = c.step.new.site in
+    let s : Scene = record {
+      tells_folder = g.W.Disk.tells_folder c.args.site.now;
+      folder = g.W.Disk.now c.args.site.now;
+      folder_after = g.W.Disk.now new;
+      tells_output = g.W.Disk.tells_output c.args.site.now;
+      told = g.W.Disk.told c.args.site.now;
+      told_after = g.W.Disk.told new;
+    } in
+    ends_step s asked c.step.result kept.history (c.step.ensures.why fresh)
+    (does_step s asked c.step.result kept (state_kept c.step.new.self) opening.fresh.0
+    (λ t. (opening.folder.1 t).1)
+    (c.step.ensures.state fresh)
+    (λ t. subst (λ (told : List ℕ). LeavesTold c.step.result (step_of kept asked).told told (g.W.Disk.told new)) opening.output.same_told
+    ((c.step.ensures.told fresh).1 (rw opening.output.same_telling t)))
+    (λ t. subst (λ (folder : Folder). LeavesFolder c.step.result (folder_of folder kept asked) folder (g.W.Disk.now new)) (opening.folder.1 t).0
+    ((c.step.ensures.folder fresh).1 (rw opening.folder.0 t)))
+    (λ t. c.step.ensures.says fresh (rw opening.folder.0 t) (subst (λ (folder : Folder). FolderSays folder kept.history) (sym (opening.folder.1 t).0) (opening.folder.1 t).1)))
