@@ -13,4 +13,5 @@ pub mod SetLaws
 pub mod SpellingLaws
 pub mod TagLaws
 pub mod TextLaws
+pub mod TwoLayers
 pub mod Vectors

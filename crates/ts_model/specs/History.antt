@@ -4,7 +4,7 @@ use Rattle.std.specs.Prelude.{◌≡◌, ◌≢◌, ℕ, zero, suc, ◌<◌, ◌
 use Rattle.std.specs.Option.{option_map, option_and_then}
 use Rattle.std.specs.Ordering.{nat_cmp}
 use Rattle.std.specs.FinMap.{FinMap, empty, get, contains_key}
-use Rattle.ts_model.specs.Fact.{Fact}
+use Rattle.ts_model.specs.Fact.{Fact, IsTriple}
 use Rattle.ts_model.specs.Order.{fact_cmp}
 use Rattle.ts_model.specs.Sets.{SetOf, contains, difference, union}
 
@@ -59,9 +59,10 @@ content_at history k = content_of history (chain_of history k)
 abbrev pub content_below : History → ℕ → SetOf fact_cmp
 content_below history k = content_of history (chain_within k history (parent_at history k))
 
--- a layer keeps to its place: its parent stands and is less, and it adds what its parent lacks and removes what it has
+-- a layer keeps to its place: it adds triples that its parent lacks and removes what the parent has, which stands and is less
 pub record IsLayerKept (history : History) (k : ℕ) (layer : LayerRecord) : Type 0 where
   pub number : (1 ≤ k) × (k < 2 ^ 32)
+  pub triples : (fact : Fact) → IsTrue (contains layer.additions fact) → IsTriple fact
   pub parent : IfSome layer.parent (λ p. (p < k) × IsTrue (contains_key history p))
   pub base : layer.parent ≡ None → layer.removals ≡ empty
   pub removed : (fact : Fact) → IsTrue (contains layer.removals fact) → IsTrue (contains (content_below history k) fact)

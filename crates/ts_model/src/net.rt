@@ -1,3 +1,4 @@
+// The net additions of a body.
 ghost use Rattle.std.specs.Prelude.{◌≡◌, IfOk, reverse, map, filter, Some};
 ghost use Rattle.ts_model.specs.NetChange.{added, is_added};
 ghost use Rattle.ts_model.specs.Sets.{members};
@@ -6,29 +7,32 @@ use crate::signed::{Sign, SignedTriple};
 use crate::triple::Triple;
 use std::alloc::{AllocError, Global};
 
-/// The net additions of the body of a base layer: the triples whose last line adds them, each once and rising.
-pub fn net_additions(alloc: Global, mut body: Vec<SignedTriple>) -> Result<Vec<Triple>, AllocError>
-    ensures { IfOk result (λ additions. additions.items ≡ members (added body.items)) }
+/// The net additions of the body of a base layer: the triples whose last line adds them, each once and rising. Lines are
+/// sorted by reference, and only the triples that are added are copied.
+pub fn net_additions(alloc: Global, body: &[SignedTriple]) -> Result<Vec<Triple>, AllocError>
+    ensures { IfOk result (λ additions. additions.items ≡ members (added body.now)) }
 {
-    turn(&mut body);
-    body.sort_by(|a, b| a.triple.cmp(&b.triple))?;
-    body.dedup_by(|later, kept| later.triple == kept.triple);
-    triples_added(alloc, body)
+    let mut lines = last_line_first(alloc, body)?;
+    lines.sort_by(|a, b| a.triple.cmp(&b.triple))?;
+    lines.dedup_by(|earlier, kept| earlier.triple == kept.triple);
+    triples_added(alloc, &lines)
 }
 
-fn turn(lines: &mut Vec<SignedTriple>)
-    ensures { lines.new.items ≡ reverse lines.old.items }
+fn last_line_first(alloc: Global, body: &[SignedTriple]) -> Result<Vec<&SignedTriple>, AllocError>
+    ensures { IfOk result (λ lines. map (λ line. line.now) lines.items ≡ reverse body.now) }
 {
-    lines.as_mut_slice().reverse();
+    body.iter().rev().collect(alloc)
 }
 
-fn triples_added(alloc: Global, lines: Vec<SignedTriple>) -> Result<Vec<Triple>, AllocError>
+fn triples_added(alloc: Global, lines: &[&SignedTriple]) -> Result<Vec<Triple>, AllocError>
     ensures { IfOk result (λ triples.
-        triples.items ≡ map (λ line. line.triple) (filter (λ line. is_added (Some line.sign)) lines.items)) }
+        triples.items ≡ map (λ line. line.now.triple) (filter (λ line. is_added (Some line.now.sign)) lines.now)) }
 {
-    lines
-        .into_iter()
-        .filter(|line| matches!(line.sign, Sign::Add))
-        .map(|line| line.triple)
-        .collect(alloc)
+    let mut triples = Vec::new(alloc);
+    for line in lines {
+        if matches!(line.sign, Sign::Add) {
+            triples.push(line.triple.copy(alloc)?)?;
+        }
+    }
+    Ok(triples)
 }

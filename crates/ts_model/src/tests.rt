@@ -39,7 +39,7 @@ fn net_additions_and_totals_with_ample_memory(rt: HostRuntime) -> Result<(), Fai
             triple: triple_a(alloc)?
         },
     ]?;
-    let additions = net_additions(alloc, body)?;
+    let additions = net_additions(alloc, &body)?;
     assert_eq!(rt; additions.len(), 1);
     let totals = totals_of(alloc, additions.as_slice())?;
     assert_eq!(rt; totals.terms, 1);
