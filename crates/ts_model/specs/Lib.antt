@@ -1,6 +1,7 @@
 pub mod Birth
 pub mod BlankLabel
 pub mod Canonical
+pub mod ChainTotals
 pub mod Characters
 pub mod Fact
 pub mod Fits

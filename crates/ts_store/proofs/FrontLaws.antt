@@ -1,12 +1,14 @@
 -- A text that is said piece by piece.
-use Rattle.std.proofs.Common.{◌≡◌, ℕ, ◌+◌, ◌<◌, ◌≤◌, Bool, true, false, cond, List, [], ◌∷◌, ◌++◌, filter, flat_map, length, take, drop, get_or, Result, Ok, Err, refl, sym, ap, subst, ◌∙◌, arith, append_assoc, append-nil}
-use Rattle.std.proofs.lemmas.List.{take-append-drop, length-append, length-take-le}
+use Rattle.std.proofs.Common.{◌≡◌, ℕ, ◌+◌, ◌<◌, ◌≤◌, Bool, true, false, cond, List, [], ◌∷◌, ◌++◌, filter, flat_map, length, take, drop, get_or, Result, Ok, Err, IfErr, refl, sym, ap, subst, ◌∙◌, arith, append_assoc, append-nil}
+use Rattle.std.proofs.lemmas.List.{take-append-drop, length-append, length-drop, length-take-le}
 use Rattle.std.proofs.lemmas.List.Elements.{filter_more, filter-append}
 use Rattle.std.proofs.lemmas.List.Concat.{flat_map-append}
 use Rattle.std.proofs.Math.Seq.{take-append_seam}
+use Rattle.ts_script.specs.Replies.{line}
 use Rattle.ts_store.specs.declared.stop.Stop.{Stop}
 use Rattle.ts_store.specs.declared.stop.Kind.{Kind}
-use Rattle.ts_store.specs.Doing.{SaysFront}
+use Rattle.ts_store.specs.declared.stop.Stop.TheVariants.{Usage, Damaged, DiskFault, InputFault, OutputFault, InputLimit, Memory}
+use Rattle.ts_store.specs.Doing.{IsAskingStop, SaysFront}
 use Rattle.ts_store.specs.Stops.{LeavesTold}
 
 -- nothing was said yet
@@ -80,13 +82,38 @@ module _ {A : Type 0} (p : A → Bool) (f : A → List ℕ) (xs : List A) (i : �
           let line : flat_map f (filter p xs) ≡ text_of (i + 1) ++ flat_map f (filter p (drop (i + 1) xs)) = text_rest_at (i + 1) in
           (left ++ flat_map f (filter p (drop (i + 1) xs)), front_longer (text_of (i + 1)) (flat_map f (filter p (drop (i + 1) xs))) (flat_map f (filter p xs)) old new left line lines_more)
 
+-- a front that lacks some of the text has fewer bytes
+front_shorter : (text old new rest : List ℕ) → 0 < length rest → SaysFront text old new rest → (n : ℕ) × (n < length text) × (new ≡ old ++ take n text)
+front_shorter text old new rest more (said, is, whole) =
+    let whole_length = ap length whole in
+    (length said, omega (arith, whole_length, length-append said rest), (front_length text old new rest (said, is, whole)).1)
+
+-- a line has a byte at least
+pub line_is_longer : (text : List ℕ) → 0 < length (line text)
+line_is_longer text = omega (arith, length-append text (10 ∷ []))
+
 -- a front of the lines is one of the whole reply
-pub list_ended : (text total old new : List ℕ) → (left : List ℕ) × SaysFront text old new left → (n : ℕ) × (new ≡ old ++ take n (text ++ total))
-list_ended text total old new (left, said) = front_length (text ++ total) old new (left ++ total) (front_longer text total (text ++ total) old new left refl said)
+pub list_ended : (stop : Stop) (text total old new : List ℕ) → IsAskingStop stop → 0 < length total → (left : List ℕ) × SaysFront text old new left → LeavesTold (Err stop) (text ++ total) old new
+list_ended OutputFault text total old new why more (left, said) = front_length (text ++ total) old new (left ++ total) (front_longer text total (text ++ total) old new left refl said)
+list_ended Memory text total old new why more (left, said) =
+    front_shorter (text ++ total) old new (left ++ total) (omega (arith, length-append left total)) (front_longer text total (text ++ total) old new left refl said)
+list_ended Usage text total old new why more said = absurd why
+list_ended (Damaged name) text total old new why more said = absurd why
+list_ended DiskFault text total old new why more said = absurd why
+list_ended InputFault text total old new why more said = absurd why
+list_ended InputLimit text total old new why more said = absurd why
 
 -- what was left of the lines is said with the last one
-pub list_done : (result : Result Kind Stop) (text total old between new piece : List ℕ) → SaysFront text old between piece → LeavesTold result (piece ++ total) between new → LeavesTold result (text ++ total) old new
-list_done (Ok kind) text total old between new piece (said, is, whole) told =
+pub list_done : (result : Result Kind Stop) (text total old between new piece : List ℕ) → IfErr result IsAskingStop → SaysFront text old between piece → LeavesTold result (piece ++ total) between new → LeavesTold result (text ++ total) old new
+list_done (Ok kind) text total old between new piece why (said, is, whole) told =
     told ∙ ap (λ l. l ++ (piece ++ total)) is ∙ append_assoc old said (piece ++ total) ∙ ap (λ l. old ++ l) (sym (append_assoc said piece total) ∙ ap (λ l. l ++ total) whole)
-list_done (Err stop) text total old between new piece before (n, is) =
+list_done (Err OutputFault) text total old between new piece why before (n, is) =
     front_length (text ++ total) old new (drop n (piece ++ total)) (front_more text total old between new (drop n (piece ++ total)) piece before (front_taken (piece ++ total) between new n is))
+list_done (Err Memory) text total old between new piece why before (n, below, is) =
+    front_shorter (text ++ total) old new (drop n (piece ++ total)) (omega (arith, length-drop n (piece ++ total)))
+    (front_more text total old between new (drop n (piece ++ total)) piece before (front_taken (piece ++ total) between new n is))
+list_done (Err Usage) text total old between new piece why before told = absurd why
+list_done (Err (Damaged name)) text total old between new piece why before told = absurd why
+list_done (Err DiskFault) text total old between new piece why before told = absurd why
+list_done (Err InputFault) text total old between new piece why before told = absurd why
+list_done (Err InputLimit) text total old between new piece why before told = absurd why

@@ -1,5 +1,6 @@
 -- A base that a body makes: its number and its triples, and the folder with its file.
 use Rattle.std.proofs.Common.{◌≡◌, ◌≢◌, ℕ, ◌+◌, ◌^◌, ◌<◌, Bool, true, false, not, ◌&&◌, cond, nat_lt, List, [], ◌∷◌, ◌++◌, All, Option, Some, None, IsTrue, refl, sym, ap, ◌∙◌, subst, true≢false}
+use Rattle.std.proofs.lemmas.Bool.{lt-ltb}
 use Rattle.std.specs.Option.{option_map, is_some}
 use Rattle.std.specs.Ordering.{nat_cmp, eq_by_cmp, is_eq}
 use Rattle.std.specs.Cmp.{nat_cmp_total, Equal-is, tied_itself}
@@ -20,11 +21,11 @@ use Rattle.ts_replace.specs.Replaced.{new_tmp, replaced}
 use Rattle.ts_site.specs.Folder.{Folder}
 use Rattle.ts_site.proofs.FolderLemmas.{get-insert_same, get-insert_other, get-remove_other}
 use Rattle.ts_store.specs.declared.loaded.Loaded.{Loaded}
-use Rattle.ts_store.specs.Doing.{IsMade}
+use Rattle.ts_store.specs.Doing.{IsBaseOf, IsMade}
 use Rattle.ts_store.specs.FolderSays.{FolderSays, IsBase, file_of}
 use Rattle.std.specs.List.Sorted.{IsStrictlySortedBy}
 use Rattle.ts_store.specs.Loaded.{IsLoaded, base_record}
-use Rattle.ts_store.specs.Step.{base_of, next_number, is_numbered}
+use Rattle.ts_store.specs.Step.{base_of, next_number, are_counted, is_numbered}
 use Rattle.ts_store.proofs.NameLaws.{layer_name-tells, layer_is_not_new, rollup_is_not_layer, rollup_is_not_new, label_is_not_layer, label_is_not_new}
 
 and_true : (b : Bool) → (b && not false) ≡ b
@@ -49,30 +50,29 @@ from_list-members : (set : SetOf fact_cmp) → from_list (members set) ≡ set
 from_list-members set = same_set fact_cmp fact_cmp_total fact_cmp-IsAntisymmetric (from_list (members set)) set (λ q.
     contains-from_list fact_cmp fact_cmp_total (members set) q ∙ sym (contains-members fact_cmp set q))
 
-module _ (history : History) (body copies : List SignedTriple) (additions : List Fact) (copied : copies ≡ body) (are : additions ≡ members (added copies)) where
+module _ (number : ℕ) (body : List SignedTriple) (additions : List Fact) (are : additions ≡ members (added body)) where
   pub additions_are : additions ≡ members (net_additions empty body)
-  additions_are = are ∙ ap (λ lines. members (added lines)) copied ∙ ap members (sym (added-is body))
+  additions_are = are ∙ ap members (sym (added-is body))
 
   pub additions_rise : IsStrictlySortedBy fact_cmp additions
-  additions_rise = subst (IsStrictlySortedBy fact_cmp) (sym are) (IsStrictlySortedBy-members fact_cmp (added copies))
+  additions_rise = subst (IsStrictlySortedBy fact_cmp) (sym are) (IsStrictlySortedBy-members fact_cmp (added body))
 
   module _ (shown : List Fact) (terms predicates : ℕ) (lent : shown ≡ additions) (counts : terms ≡ term_count shown) (predicate_counts : predicates ≡ predicate_count shown) where
-    pub numbered_is : (nat_lt (next_number history) (2 ^ 32) && nat_lt terms (2 ^ 32) && nat_lt predicates (2 ^ 32)) ≡ is_numbered history (members (net_additions empty body))
-    numbered_is =
+    pub counted_is : (nat_lt terms (2 ^ 32) && nat_lt predicates (2 ^ 32)) ≡ are_counted (members (net_additions empty body))
+    counted_is =
         let facts : shown ≡ members (net_additions empty body) = lent ∙ additions_are in
-        λ i. nat_lt (next_number history) (2 ^ 32) && nat_lt ((counts ∙ ap term_count facts) i) (2 ^ 32) && nat_lt ((predicate_counts ∙ ap predicate_count facts) i) (2 ^ 32)
+        λ i. nat_lt ((counts ∙ ap term_count facts) i) (2 ^ 32) && nat_lt ((predicate_counts ∙ ap predicate_count facts) i) (2 ^ 32)
 
-    pub is_made : (number : ℕ) (loaded : Loaded) (file : List ℕ) → number ≡ next_number history
-        → (nat_lt (next_number history) (2 ^ 32) && nat_lt terms (2 ^ 32) && nat_lt predicates (2 ^ 32)) ≡ true
+    pub is_base_of : (loaded : Loaded) (file : List ℕ) → (nat_lt terms (2 ^ 32) && nat_lt predicates (2 ^ 32)) ≡ true
         → loaded.number ≡ number → IsLoaded loaded → All IsTriple additions → from_list {R = fact_cmp} loaded.triples.items ≡ from_list additions → file ≡ plain_file number None additions []
-        → IsMade history body loaded file
-    is_made number loaded file next left given sound triples same bytes = record {
-      numbered = sym numbered_is ∙ left;
-      number = given ∙ next;
+        → IsBaseOf number body loaded file
+    is_base_of loaded file left given sound triples same bytes = record {
+      counted = sym counted_is ∙ left;
+      number = given;
       sound = sound;
       triples = subst (All IsTriple) additions_are triples;
       same = same ∙ ap from_list additions_are ∙ from_list-members (net_additions empty body);
-      bytes = bytes ∙ (λ i. plain_file (next i) None (additions_are i) []);
+      bytes = bytes ∙ (λ i. plain_file number None (additions_are i) []);
     }
 
 module _ (history : History) (body : List SignedTriple) (loaded : Loaded) (file : List ℕ) (made : IsMade history body loaded file) where
@@ -87,6 +87,11 @@ module _ (history : History) (body : List SignedTriple) (loaded : Loaded) (file 
 
   number : IsLayerNumber n
   number = subst IsLayerNumber made.number made.sound.number
+
+  pub numbered : is_numbered history (members (net_additions empty body)) ≡ true
+  numbered =
+      let below : nat_lt n (2 ^ 32) ≡ true = lt-ltb n (2 ^ 32) number.1 in
+      ap (λ b. b && are_counted (members (net_additions empty body))) below ∙ made.counted
 
   get-after : (k : ℕ) → get after k ≡ cond (eq_by_cmp nat_cmp k n) (Some (base_of body)) (get history k)
   get-after k = get-insert nat_cmp_total history n (base_of body) k

@@ -25,7 +25,7 @@ use Rattle.ts_store.specs.State.{State}
 use Rattle.ts_store.specs.Step.{Stepped, does, refuses, with_layer, base_of, next_number, is_numbered, step_of}
 use Rattle.ts_store.specs.Stops.{LeavesFolder, kind_of}
 use Rattle.ts_store.proofs.NumberLaws.{AreLoaded-push, history_kept-push}
-use Rattle.ts_store.proofs.MadeLaws.{record_is, says_made}
+use Rattle.ts_store.proofs.MadeLaws.{record_is, says_made, numbered}
 
 module _ (layers : List Loaded) (last : Option ℕ) (body : List SignedTriple) (loaded : Loaded) (file : List ℕ) (are : AreLoaded layers) (newest : IsNewest layers last)
     (made : IsMade (history_kept layers) body loaded file) where
@@ -33,7 +33,7 @@ module _ (layers : List Loaded) (last : Option ℕ) (body : List SignedTriple) (
   stepped = step_of (state_of layers last) (command.Base body)
 
   stepped_is : stepped ≡ does (with_layer (state_of layers last) (base_of body)) (reply_text (reply.Layer (next_number (history_kept layers))))
-  stepped_is = ap (λ (b : Bool). cond b (does (with_layer (state_of layers last) (base_of body)) (reply_text (reply.Layer (next_number (history_kept layers))))) (refuses (state_of layers last) refusal.Full)) made.numbered
+  stepped_is = ap (λ (b : Bool). cond b (does (with_layer (state_of layers last) (base_of body)) (reply_text (reply.Layer (next_number (history_kept layers))))) (refuses (state_of layers last) refusal.Full)) (numbered (history_kept layers) body loaded file made)
 
   module _ (layers_after : List Loaded) (last_after : Option ℕ) where
     abbrev Adds : Type 0
@@ -80,9 +80,21 @@ module _ (layers : List Loaded) (last : Option ℕ) (body : List SignedTriple) (
         ((λ i. record { history = history_added h.1 i; last = last_added h.1 i }) ∙ sym (ap (λ (s : Stepped). s.state) stepped_is), h.0 ∙ sym (ap (λ (s : Stepped). kind_of s.refused) stepped_is))
     state_after (Err stop) h = tt
 
-    pub says_after : (result : Result Kind Stop) (folder after : Folder) → After result → LeavesFolder result (replaced folder (layer_name loaded.number) file) folder after
-        → FolderSays folder (history_kept layers) → OnOk result (FolderSays after (history_kept layers_after))
-    says_after (Ok kind) folder after h left says =
-        subst (λ f. FolderSays f (history_kept layers_after)) (sym (left ∙ ap (λ n. replaced folder (layer_name n) file) made.number))
-        (subst (FolderSays (replaced folder (layer_name (next_number (history_kept layers))) file)) (sym (history_added h.1)) (says_made (history_kept layers) body loaded file made folder says))
-    says_after (Err stop) folder after h left says = tt
+  -- what `place` may leave of a folder that told the history
+  module _ (folder after : Folder) (says : FolderSays folder (history_kept layers)) where
+    abbrev next : History
+    next = stepped.state.history
+
+    says_next : after ≡ replaced folder (layer_name loaded.number) file → FolderSays after next
+    says_next is =
+        subst (λ f. FolderSays f next) (sym (is ∙ ap (λ n. replaced folder (layer_name n) file) made.number))
+        (subst (FolderSays (replaced folder (layer_name (next_number (history_kept layers))) file)) (sym (ap (λ (s : Stepped). s.state.history) stepped_is)) (says_made (history_kept layers) body loaded file made folder says))
+
+    pub says_after : (result : Result Kind Stop) → IfErr result (λ stop. (stop ≡ DiskFault) ⊎ (stop ≡ OutputFault))
+        → LeavesFolder result (replaced folder (layer_name loaded.number) file) folder after → LeavesHistory (FolderSays after) result (history_kept layers) next
+    says_after (Ok kind) why left = says_next left
+    says_after (Err OutputFault) why left = says_next left
+    says_after (Err DiskFault) why (inl any) = inl (says_any folder after (history_kept layers) any says)
+    says_after (Err DiskFault) why (inr (inl same)) = inl (subst (λ f. FolderSays f (history_kept layers)) (sym same) says)
+    says_after (Err DiskFault) why (inr (inr is)) = inr (says_next is)
+    says_after (Err Memory) why left = absurd (neither Memory (inl memory_is_no_disk_fault) why)

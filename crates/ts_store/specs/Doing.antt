@@ -16,7 +16,7 @@ use Rattle.ts_store.specs.declared.stop.Stop.TheVariants.{Damaged, OutputFault, 
 use Rattle.ts_store.specs.FolderSays.{file_of, IsDamagedLayer}
 use Rattle.ts_store.specs.Loaded.{IsLoaded, base_record, history_kept}
 use Rattle.ts_store.specs.State.{State}
-use Rattle.ts_store.specs.Step.{next_number, is_numbered}
+use Rattle.ts_store.specs.Step.{next_number, are_counted}
 
 abbrev pub state_of : List Loaded → Option ℕ → State
 state_of layers last = record { history = history_kept layers; last = last }
@@ -25,14 +25,18 @@ state_of layers last = record { history = history_kept layers; last = last }
 abbrev pub IsNewest : List Loaded → Option ℕ → Type 0
 IsNewest layers last = IfSome last (λ n. IsTrue (contains_key (history_kept layers) n))
 
--- the base and the file that a body makes in a history
-pub record IsMade (history : History) (body : List SignedTriple) (loaded : Loaded) (file : List ℕ) : Type 0 where
-  pub numbered : is_numbered history (members (net_additions empty body)) ≡ true
-  pub number : loaded.number ≡ next_number history
+-- the base of this number that a body makes, and its file
+pub record IsBaseOf (k : ℕ) (body : List SignedTriple) (loaded : Loaded) (file : List ℕ) : Type 0 where
+  pub counted : are_counted (members (net_additions empty body)) ≡ true
+  pub number : loaded.number ≡ k
   pub sound : IsLoaded loaded
   pub triples : All IsTriple (members (net_additions empty body))
   pub same : from_list loaded.triples.items ≡ net_additions empty body
-  pub bytes : file ≡ plain_file (next_number history) None (members (net_additions empty body)) []
+  pub bytes : file ≡ plain_file k None (members (net_additions empty body)) []
+
+-- the next base of a history that a body makes, and its file
+abbrev pub IsMade : History → List SignedTriple → Loaded → List ℕ → Type 0
+IsMade history body loaded file = IsBaseOf (next_number history) body loaded file
 
 -- the stops of a command that leaves the disk alone
 abbrev pub IsAskingStop : Stop → Type 0

@@ -2,6 +2,8 @@ pub mod Doing
 pub mod FolderSays
 pub mod Kept
 pub mod Loaded
+pub mod Stands
 pub mod State
 pub mod Step
+pub mod Steps
 pub mod Stops

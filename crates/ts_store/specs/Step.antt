@@ -64,9 +64,13 @@ greatest_of (n ∷ numbers) = max n (greatest_of numbers)
 abbrev pub next_number : History → ℕ
 next_number history = greatest_of (keys history) + 1
 
--- a number is left for the layer, and for each of its terms and predicates
+-- a number is left for each of the terms and predicates of a base
+abbrev pub are_counted : List Fact → Bool
+are_counted facts = nat_lt (term_count facts) (2 ^ 32) && nat_lt (predicate_count facts) (2 ^ 32)
+
+-- and for the base
 abbrev pub is_numbered : History → List Fact → Bool
-is_numbered history facts = nat_lt (next_number history) (2 ^ 32) && nat_lt (term_count facts) (2 ^ 32) && nat_lt (predicate_count facts) (2 ^ 32)
+is_numbered history facts = nat_lt (next_number history) (2 ^ 32) && are_counted facts
 
 -- a base layer with the net additions of a body
 abbrev pub base_of : List SignedTriple → LayerRecord

@@ -1,10 +1,10 @@
 // What is asked of a layer.
-ghost use Rattle.std.specs.Prelude.{◌≡◌, IfOk, IfErr};
+ghost use Rattle.std.specs.Prelude.{◌≡◌, IfOk, IfErr, None};
 ghost use Rattle.ts_site.specs.Output.{IsSameDisk};
 ghost use Rattle.ts_site.specs.Telling.{Tells};
 ghost use Rattle.ts_store.specs.Doing.{IsAskingStop, IsNewest, state_of};
 ghost use Rattle.ts_store.specs.Loaded.{AreLoaded};
-ghost use Rattle.ts_store.specs.Step.{has_text, step_of};
+ghost use Rattle.ts_store.specs.Step.{has_text, resolve as layer_of, step_of};
 ghost use Rattle.ts_store.specs.Stops.{CountsSay, LeavesTold, kind_of};
 
 use crate::answer::{refuse, reply};
@@ -33,6 +33,7 @@ pub(crate) fn list_at<W: Site>(
     ensures told { Tells (W.tells_output site.old) (W.tells_output site.new)
         (LeavesTold result (step_of (state_of layers.now last) (Command.Listing (Ref.Layer named) pattern.now)).told (W.told site.old) (W.told site.new)) }
     ensures why { IfErr result IsAskingStop }
+    ensures free { layer_of (state_of layers.now last) named ≡ None → IfErr result (λ stop. stop ≡ Stop.Memory → ⊥) }
     ensures say { CountsSay result (W.say_faults site.old) (W.say_faults site.new) }
     ensures disk { IsSameDisk W.tells_folder W.now W.disk_faults site.old site.new }
 {
@@ -55,7 +56,7 @@ pub(crate) fn has_at<W: Site>(
     ensures kind { IfOk result (λ kind. kind ≡ kind_of (step_of (state_of layers.now last) (Command.Has (Ref.Layer named) triple.now)).refused) }
     ensures told { Tells (W.tells_output site.old) (W.tells_output site.new)
         (LeavesTold result (step_of (state_of layers.now last) (Command.Has (Ref.Layer named) triple.now)).told (W.told site.old) (W.told site.new)) }
-    ensures why { IfErr result IsAskingStop }
+    ensures why { IfErr result (λ stop. stop ≡ Stop.OutputFault) }
     ensures say { CountsSay result (W.say_faults site.old) (W.say_faults site.new) }
     ensures disk { IsSameDisk W.tells_folder W.now W.disk_faults site.old site.new }
 {
@@ -69,7 +70,7 @@ fn say_has<W: Site>(site: &mut W, has: bool) -> Result<Kind, Stop>
     ensures kind { IfOk result (λ kind. kind ≡ Kind.Done) }
     ensures told { Tells (W.tells_output site.old) (W.tells_output site.new)
         (LeavesTold result (has_text has) (W.told site.old) (W.told site.new)) }
-    ensures why { IfErr result IsAskingStop }
+    ensures why { IfErr result (λ stop. stop ≡ Stop.OutputFault) }
     ensures say { CountsSay result (W.say_faults site.old) (W.say_faults site.new) }
     ensures disk { IsSameDisk W.tells_folder W.now W.disk_faults site.old site.new }
 {

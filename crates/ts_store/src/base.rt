@@ -1,5 +1,5 @@
 // Making a base layer.
-ghost use Rattle.std.specs.Prelude.{◌≡◌, ◌<◌, ◌^◌, ◌&&◌, [], None, All, IfOk, MatchOption, nat_lt, true, false};
+ghost use Rattle.std.specs.Prelude.{◌≡◌, ◌≤◌, ◌^◌, ◌&&◌, nat_lt, [], None, All, IfOk, IfErr, MatchOption, true, false};
 ghost use Rattle.std.specs.FinMap.{empty, keys};
 ghost use Rattle.std.specs.List.Sorted.{IsStrictlySortedBy};
 ghost use Rattle.ts_model.specs.Fact.{IsTriple};
@@ -8,16 +8,16 @@ ghost use Rattle.ts_model.specs.Order.{fact_cmp};
 ghost use Rattle.ts_model.specs.Sets.{from_list, members};
 ghost use Rattle.ts_plain.specs.PlainFile.{plain_file};
 ghost use Rattle.ts_replace.specs.Names.{IsLayerNumber};
-ghost use Rattle.ts_store.specs.Doing.{IsMade};
+ghost use Rattle.ts_store.specs.Doing.{IsBaseOf, IsMade};
 ghost use Rattle.ts_store.specs.Loaded.{AreLoaded, IsLoaded, history_kept};
-ghost use Rattle.ts_store.specs.Step.{greatest_of, is_numbered, next_number};
+ghost use Rattle.ts_store.specs.Step.{are_counted, greatest_of, is_numbered, next_number};
 
 use crate::loaded::{Loaded, load};
 use std::alloc::{AllocError, Global};
 use ts_model::{SignedTriple, Totals, Triple, net_additions, totals_of};
 use ts_plain::{PlainLayer, write_plain};
 
-/// The greatest number of a layer, and the most terms and predicates of a chain.
+/// The most terms and predicates of a chain.
 const GREATEST: u64 = 4_294_967_295;
 
 /// A new base layer, and its file.
@@ -27,49 +27,60 @@ pub(crate) struct Made {
     pub file: Vec<u8>,
 }
 
-/// The layer that a body makes, and none where no number is left for it or for one of its terms.
+/// The layer that a body makes, and none where no number is left for it or for one of its terms. The former is seen without
+/// memory.
 pub(crate) fn make(
     alloc: Global,
     layers: &[Loaded],
     body: &[SignedTriple],
 ) -> Result<Option<Made>, AllocError>
     requires { AreLoaded layers.now }
-    ensures { IfOk result (λ made. MatchOption made
+    ensures made { IfOk result (λ made. MatchOption made
         (is_numbered (history_kept layers.now) (members (net_additions empty body.now)) ≡ false)
         (λ made. IsMade (history_kept layers.now) body.now made.loaded made.file.items)) }
+    ensures full { 2 ^ 32 ≤ next_number (history_kept layers.now) → IfErr result (λ _. ⊥) }
 {
-    let additions = net_additions(alloc, copies(alloc, body)?)?;
-    let totals = totals_of(alloc, &additions)?;
-    match number_for(layers, totals) {
+    match next(layers) {
         None => Ok(None),
-        Some(number) => Ok(Some(lay(alloc, number, additions)?)),
+        Some(number) => make_numbered(alloc, number, body),
     }
 }
 
-fn copies(alloc: Global, body: &[SignedTriple]) -> Result<Vec<SignedTriple>, AllocError>
-    ensures { IfOk result (λ copies. copies.items ≡ body.now) }
+/// The layer of this number that a body makes, and none where no number is left for one of its terms.
+fn make_numbered(
+    alloc: Global,
+    number: u32,
+    body: &[SignedTriple],
+) -> Result<Option<Made>, AllocError>
+    requires { IsLayerNumber number }
+    ensures { IfOk result (λ made. MatchOption made
+        (are_counted (members (net_additions empty body.now)) ≡ false)
+        (λ made. IsBaseOf number body.now made.loaded made.file.items)) }
 {
-    let mut copies = Vec::new(alloc);
-    for line in body {
-        copies.push(SignedTriple {
-            sign: line.sign,
-            triple: line.triple.copy(alloc)?,
-        })?;
+    let additions = net_additions(alloc, body)?;
+    let totals = totals_of(alloc, &additions)?;
+    if !have_numbers(totals) {
+        return Ok(None);
     }
-    Ok(copies)
+    Ok(Some(lay(alloc, number, additions)?))
 }
 
-/// The number of the next layer, if that is left and its terms and predicates have numbers.
-fn number_for(layers: &[Loaded], totals: Totals) -> Option<u32>
+/// Whether so many terms and predicates have numbers.
+fn have_numbers(totals: Totals) -> bool
+    ensures { result ≡ (nat_lt totals.terms (2 ^ 32) && nat_lt totals.predicates (2 ^ 32)) }
+{
+    totals.terms <= GREATEST && totals.predicates <= GREATEST
+}
+
+/// The number of the next layer, if one is left.
+fn next(layers: &[Loaded]) -> Option<u32>
     requires { AreLoaded layers.now }
-    ensures { let left = nat_lt (next_number (history_kept layers.now)) (2 ^ 32) && nat_lt totals.terms (2 ^ 32) && nat_lt totals.predicates (2 ^ 32) in
-        MatchOption result (left ≡ false) (λ number. (number ≡ next_number (history_kept layers.now)) × IsLayerNumber number × (left ≡ true)) }
+    ensures { MatchOption result (2 ^ 32 ≤ next_number (history_kept layers.now)) (λ number. (number ≡ next_number (history_kept layers.now)) × IsLayerNumber number) }
 {
-    let greatest = greatest(layers);
-    if greatest == u32::MAX || totals.terms > GREATEST || totals.predicates > GREATEST {
-        return None;
+    match greatest(layers) {
+        u32::MAX => None,
+        greatest => Some(greatest + 1),
     }
-    Some(greatest + 1)
 }
 
 /// The greatest number of a layer, 0 where there is none.

@@ -1,11 +1,12 @@
 // Doing a command.
-ghost use Rattle.std.specs.Prelude.{◌≡◌, IsTrue, IfOk, IfErr, OnOk};
+ghost use Rattle.std.specs.Prelude.{◌≡◌, IsTrue, IfOk, IfErr, Err, false};
 ghost use Rattle.ts_site.specs.Telling.{Tells};
 ghost use Rattle.ts_store.specs.Doing.{IsNewest, state_of};
 ghost use Rattle.ts_store.specs.FolderSays.{FolderSays};
 ghost use Rattle.ts_store.specs.Loaded.{AreLoaded, history_kept};
+ghost use Rattle.ts_store.specs.Stands.{LeavesHistory};
 ghost use Rattle.ts_store.specs.Step.{step_of};
-ghost use Rattle.ts_store.specs.Stops.{CountsDisk, CountsSay, IsStepStop, LeavesFolder, LeavesTold, TakesNoMemory, folder_of, kind_of};
+ghost use Rattle.ts_store.specs.Stops.{CountsDisk, CountsSay, IsStepStop, LeavesFolder, LeavesTold, TakesNoMemory, folder_of, is_listing, kind_of};
 
 use crate::answer::refuse;
 use crate::ask::{has_at, list_at};
@@ -35,9 +36,10 @@ pub(crate) fn do_command<W: Site>(
     ensures folder { Tells (W.tells_folder site.old) (W.tells_folder site.new)
         (LeavesFolder result (folder_of (W.now site.old) (state_of layers.old.items last.old) command.now) (W.now site.old) (W.now site.new)) }
     ensures says { IsTrue (W.tells_folder site.old) → FolderSays (W.now site.old) (history_kept layers.old.items)
-        → OnOk result (FolderSays (W.now site.new) (history_kept layers.new.items)) }
-    ensures why { IfErr result IsStepStop }
-    ensures free { TakesNoMemory command.now → IfErr result (λ stop. stop ≡ Stop.Memory → ⊥) }
+        → LeavesHistory (FolderSays (W.now site.new)) result (history_kept layers.old.items) (step_of (state_of layers.old.items last.old) command.now).state.history }
+    ensures why { IfErr result (IsStepStop (state_of layers.old.items last.old) command.now) }
+    ensures untouched { is_listing command.now ≡ false → result ≡ Err Stop.Memory → site.new ≡ site.old }
+    ensures free { TakesNoMemory (state_of layers.old.items last.old) command.now → IfErr result (λ stop. stop ≡ Stop.Memory → ⊥) }
     ensures disk { CountsDisk result (W.disk_faults site.old) (W.disk_faults site.new) }
     ensures say { CountsSay result (W.say_faults site.old) (W.say_faults site.new) }
 {

@@ -1,5 +1,5 @@
 // Giving a folder a base layer.
-ghost use Rattle.std.specs.Prelude.{◌≡◌, ◌⊎◌, ◌<◌, ◌∷◌, ◌++◌, [], IsTrue, IfOk, IfErr, OnOk, MatchResult, vec_len, vec_capacity};
+ghost use Rattle.std.specs.Prelude.{◌≡◌, ◌⊎◌, ◌<◌, ◌≤◌, ◌^◌, ◌∷◌, ◌++◌, [], IsTrue, IfOk, IfErr, Err, MatchResult, vec_len, vec_capacity};
 ghost use Rattle.ts_replace.specs.Names.{layer_name};
 ghost use Rattle.ts_replace.specs.Replaced.{replaced};
 ghost use Rattle.ts_script.specs.Replies.{reply_text};
@@ -7,7 +7,8 @@ ghost use Rattle.ts_site.specs.Telling.{Tells};
 ghost use Rattle.ts_store.specs.Doing.{AddsBase, IsNewest, KeepsAll, state_of};
 ghost use Rattle.ts_store.specs.FolderSays.{FolderSays};
 ghost use Rattle.ts_store.specs.Loaded.{AreLoaded, history_kept};
-ghost use Rattle.ts_store.specs.Step.{step_of};
+ghost use Rattle.ts_store.specs.Stands.{LeavesHistory};
+ghost use Rattle.ts_store.specs.Step.{next_number, step_of};
 ghost use Rattle.ts_store.specs.Stops.{CountsDisk, CountsSay, IsStepStop, LeavesFolder, LeavesTold, folder_of, kind_of};
 
 use crate::answer::{refuse, reply};
@@ -39,8 +40,10 @@ pub(crate) fn make_base<W: Site>(
     ensures folder { Tells (W.tells_folder site.old) (W.tells_folder site.new)
         (LeavesFolder result (folder_of (W.now site.old) (state_of layers.old.items last.old) (Command.Base body.now)) (W.now site.old) (W.now site.new)) }
     ensures says { IsTrue (W.tells_folder site.old) → FolderSays (W.now site.old) (history_kept layers.old.items)
-        → OnOk result (FolderSays (W.now site.new) (history_kept layers.new.items)) }
-    ensures why { IfErr result IsStepStop }
+        → LeavesHistory (FolderSays (W.now site.new)) result (history_kept layers.old.items) (step_of (state_of layers.old.items last.old) (Command.Base body.now)).state.history }
+    ensures why { IfErr result (IsStepStop (state_of layers.old.items last.old) (Command.Base body.now)) }
+    ensures untouched { result ≡ Err Stop.Memory → site.new ≡ site.old }
+    ensures free { 2 ^ 32 ≤ next_number (history_kept layers.old.items) → IfErr result (λ stop. stop ≡ Stop.Memory → ⊥) }
     ensures disk { CountsDisk result (W.disk_faults site.old) (W.disk_faults site.new) }
     ensures say { CountsSay result (W.say_faults site.old) (W.say_faults site.new) }
 {
@@ -70,7 +73,7 @@ fn place<W: Site>(
         (LeavesTold result (reply_text (Reply.Layer made.loaded.number)) (W.told site.old) (W.told site.new)) }
     ensures folder { Tells (W.tells_folder site.old) (W.tells_folder site.new)
         (LeavesFolder result (replaced (W.now site.old) (layer_name made.loaded.number) made.file.items) (W.now site.old) (W.now site.new)) }
-    ensures why { IfErr result IsStepStop }
+    ensures why { IfErr result (λ stop. (stop ≡ Stop.DiskFault) ⊎ (stop ≡ Stop.OutputFault)) }
     ensures disk { CountsDisk result (W.disk_faults site.old) (W.disk_faults site.new) }
     ensures say { CountsSay result (W.say_faults site.old) (W.say_faults site.new) }
 {

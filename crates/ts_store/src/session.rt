@@ -1,5 +1,5 @@
 // An open folder.
-ghost use Rattle.std.specs.Prelude.{◌≡◌, ℕ, List, None, Some, Err, IsTrue, IfOk, IfErr, OnOk, option_map};
+ghost use Rattle.std.specs.Prelude.{◌≡◌, ℕ, List, None, Some, Err, IsTrue, IfOk, IfErr, option_map, false};
 ghost use Rattle.ts_site.specs.Output.{IsSameOutput};
 ghost use Rattle.ts_site.specs.Telling.{Tells};
 ghost use Rattle.std.proofs.Props.{props};
@@ -31,8 +31,9 @@ pub struct Session {
 impl Session {
     ghost use Rattle.ts_store.specs.FolderSays.{FolderSays, IsFirstDamaged};
     ghost use Rattle.ts_store.specs.Kept.{state_kept, spent_by};
+    ghost use Rattle.ts_store.specs.Stands.{LeavesHistory, Stands};
     ghost use Rattle.ts_store.specs.Step.{step_of};
-    ghost use Rattle.ts_store.specs.Stops.{CountsDisk, CountsSay, IsOpeningStop, IsStepStop, LeavesFolder, LeavesTold, TakesNoMemory, folder_of, kind_of, spent_after};
+    ghost use Rattle.ts_store.specs.Stops.{CountsDisk, CountsSay, IsOpeningStop, IsStepStop, LeavesFolder, LeavesTold, TakesNoMemory, folder_of, is_listing, kind_of, spent_after};
     ghost use Rattle.ts_store.specs.declared.stop.Stop.TheVariants.{Damaged, Memory};
 
     /// Opens a folder: settles what reads, and reads every layer file. `Damaged` exactly where a file is the first that isn't
@@ -68,11 +69,16 @@ impl Session {
         ensures folder { spent_by self.old ≡ None → Tells (W.tells_folder site.old) (W.tells_folder site.new)
             (LeavesFolder result (folder_of (W.now site.old) (state_kept self.old) command.now) (W.now site.old) (W.now site.new)) }
 
-        // A folder that tells the session's history tells the next one.
+        // A folder that tells the session's history, or stands for it, does so of the next one, or after a stop of one of the two.
         ensures says { spent_by self.old ≡ None → IsTrue (W.tells_folder site.old) → FolderSays (W.now site.old) (state_kept self.old).history
-            → OnOk result (FolderSays (W.now site.new) (state_kept self.new).history) }
-        ensures why { spent_by self.old ≡ None → IfErr result IsStepStop }
-        ensures free { spent_by self.old ≡ None → TakesNoMemory command.now → IfErr result (λ stop. stop ≡ Memory → ⊥) }
+            → LeavesHistory (FolderSays (W.now site.new)) result (state_kept self.old).history (step_of (state_kept self.old) command.now).state.history }
+        ensures stands { spent_by self.old ≡ None → IsTrue (W.tells_folder site.old) → Stands (W.now site.old) (state_kept self.old).history
+            → LeavesHistory (Stands (W.now site.new)) result (state_kept self.old).history (step_of (state_kept self.old) command.now).state.history }
+        ensures why { spent_by self.old ≡ None → IfErr result (IsStepStop (state_kept self.old) command.now) }
+
+        // Only a listing may have said something when memory runs out, and a step that is refused before it loads takes none.
+        ensures untouched { spent_by self.old ≡ None → is_listing command.now ≡ false → result ≡ Err Memory → site.new ≡ site.old }
+        ensures free { spent_by self.old ≡ None → TakesNoMemory (state_kept self.old) command.now → IfErr result (λ stop. stop ≡ Memory → ⊥) }
         ensures spends { spent_by self.old ≡ None → spent_by self.new ≡ spent_after result }
         ensures spent { (stop : Stop) → spent_by self.old ≡ Some stop → (result ≡ Err stop) × (site.new ≡ site.old) × (spent_by self.new ≡ Some stop) }
         ensures disk { spent_by self.old ≡ None → CountsDisk result (W.disk_faults site.old) (W.disk_faults site.new) }
