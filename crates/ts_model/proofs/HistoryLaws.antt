@@ -1,10 +1,10 @@
 -- The chain of a layer of a well kept history, one layer at a time.
-use Rattle.std.proofs.Common.{◌≡◌, ℕ, cond, reverse, zero, suc, ◌<◌, ◌≤◌, true, List, [], ◌∷◌, Option, Some, None, IsTrue, IfSome, true≢false, refl, sym, ap, ◌∙◌, subst, arith}
+use Rattle.std.proofs.Common.{◌≡◌, ℕ, cond, reverse, zero, suc, ◌<◌, ◌≤◌, true, List, [], ◌∷◌, Option, Some, None, IsTrue, IfSome, true≢false, refl, sym, ap, ◌∙◌, arith}
 use Rattle.std.specs.Option.{is_some, option_and_then}
 use Rattle.std.specs.FinMap.{get, contains_key}
 use Rattle.ts_model.specs.Spelled.{Spelled}
 use Rattle.ts_model.specs.Birth.{mentions, first_place, birth_of}
-use Rattle.ts_model.specs.History.{LayerRecord, History, IsWellKept, IsLayerKept, parent_at, chain_within, chain_of}
+use Rattle.ts_model.specs.History.{LayerRecord, History, IsWellKept, parent_at, chain_within, chain_of}
 
 -- the chain of a layer, and none where there is no layer
 abbrev pub chain_from : History → Option ℕ → List ℕ

@@ -4,6 +4,7 @@ pub mod HistoryLaws
 pub mod IriLaws
 pub mod LabelLaws
 pub mod LayerLemmas
+pub mod LentLaws
 pub mod ListLaws
 pub mod LiteralLaws
 pub mod NetLaws
