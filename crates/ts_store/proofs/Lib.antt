@@ -9,3 +9,4 @@ pub mod NameLaws
 pub mod MadeLaws
 pub mod OpenLaws
 pub mod PlaceLaws
+pub mod StandsLaws

@@ -1,5 +1,5 @@
 -- A base that a body makes: its number and its triples, and the folder with its file.
-use Rattle.std.proofs.Common.{◌≡◌, ◌≢◌, ℕ, ◌+◌, ◌^◌, ◌<◌, Bool, true, false, not, ◌&&◌, cond, nat_lt, List, [], ◌∷◌, ◌++◌, All, Option, Some, None, IsTrue, refl, sym, ap, ◌∙◌, subst, true≢false}
+use Rattle.std.proofs.Common.{◌≡◌, ◌≢◌, ℕ, ◌+◌, ◌^◌, ◌<◌, Bool, true, false, not, ◌&&◌, cond, nat_lt, List, [], ◌∷◌, ◌++◌, All, Option, Some, None, IsTrue, inl, inr, refl, sym, ap, ◌∙◌, subst, true≢false}
 use Rattle.std.proofs.lemmas.Bool.{lt-ltb}
 use Rattle.std.specs.Option.{option_map, is_some}
 use Rattle.std.specs.Ordering.{nat_cmp, eq_by_cmp, is_eq}
@@ -18,7 +18,7 @@ use Rattle.ts_model.proofs.SetAlgebra.{contains-difference, contains-empty, memb
 use Rattle.ts_plain.specs.PlainFile.{plain_file}
 use Rattle.ts_replace.specs.Names.{IsLayerNumber, layer_name, rollup_name, label_file_name}
 use Rattle.ts_replace.specs.Replaced.{new_tmp, replaced}
-use Rattle.ts_site.specs.Folder.{Folder}
+use Rattle.ts_site.specs.Folder.{Folder, IsAnyAt}
 use Rattle.ts_site.proofs.FolderLemmas.{get-insert_same, get-insert_other, get-remove_other}
 use Rattle.ts_store.specs.declared.loaded.Loaded.{Loaded}
 use Rattle.ts_store.specs.Doing.{IsBaseOf, IsMade}
@@ -74,6 +74,19 @@ module _ (number : ℕ) (body : List SignedTriple) (additions : List Fact) (are 
       same = same ∙ ap from_list additions_are ∙ from_list-members (net_additions empty body);
       bytes = bytes ∙ (λ i. plain_file number None (additions_are i) []);
     }
+
+-- the temporary file says nothing
+pub says_any : (folder after : Folder) (history : History) → IsAnyAt new_tmp folder after → FolderSays folder history → FolderSays after history
+says_any folder after history any says = record {
+  numbers = says.numbers;
+  layers = λ k is. same (layer_name k) (layer_is_not_new k) any ∙ says.layers k is;
+  rollups = λ k is. ap is_some (same (rollup_name k) (rollup_is_not_new k) any) ∙ says.rollups k is;
+  labels = λ name is. ap is_some (same (label_file_name name) (label_is_not_new name) any) ∙ says.labels name is;
+}
+  where
+    same : (name : List ℕ) → name ≢ new_tmp → IsAnyAt new_tmp folder after → get after name ≡ get folder name
+    same name other (inl removed) = ap (λ f. get f name) removed ∙ get-remove_other folder new_tmp name other
+    same name other (inr (bytes, put)) = ap (λ f. get f name) put ∙ get-insert_other folder new_tmp bytes name other
 
 module _ (history : History) (body : List SignedTriple) (loaded : Loaded) (file : List ℕ) (made : IsMade history body loaded file) where
   pub record_is : base_record loaded.triples.items ≡ base_of body

@@ -1,5 +1,5 @@
 -- The state and the folder once a base was made.
-use Rattle.std.proofs.Common.{◌≡◌, ◌⊎◌, ℕ, Bool, true, false, cond, List, [], ◌∷◌, ◌++◌, Option, Some, None, IsTrue, IfSome, IfOk, OnOk, Result, Ok, Err, MatchResult, refl, sym, ap, ◌∙◌, subst, inl, inr}
+use Rattle.std.proofs.Common.{◌≡◌, ◌⊎◌, ℕ, Bool, true, false, cond, List, [], ◌∷◌, ◌++◌, Option, Some, None, IsTrue, IfSome, IfOk, IfErr, Result, Ok, Err, MatchResult, refl, sym, ap, ◌∙◌, subst, inl, inr}
 use Rattle.std.specs.Option.{is_some}
 use Rattle.std.specs.Ordering.{nat_cmp, eq_by_cmp, is_eq}
 use Rattle.std.specs.Cmp.{nat_cmp_total, tied_itself}
@@ -15,17 +15,20 @@ use Rattle.ts_script.specs.declared.reply.Reply.TheVariants as reply
 use Rattle.ts_script.specs.declared.reply.Refusal.TheVariants as refusal
 use Rattle.ts_site.specs.Folder.{Folder}
 use Rattle.ts_store.specs.declared.loaded.Loaded.{Loaded}
+use Rattle.ts_model.specs.History.{History}
 use Rattle.ts_store.specs.declared.stop.Stop.{Stop}
+use Rattle.ts_store.specs.declared.stop.Stop.TheVariants.{DiskFault, OutputFault}
 use Rattle.ts_store.specs.declared.stop.Kind.{Kind}
 use Rattle.ts_store.specs.declared.stop.Kind.TheVariants.{Done}
 use Rattle.ts_store.specs.Doing.{IsMade, IsNewest, AddsBase, KeepsAll, state_of}
 use Rattle.ts_store.specs.FolderSays.{FolderSays}
 use Rattle.ts_store.specs.Loaded.{AreLoaded, history_kept}
+use Rattle.ts_store.specs.Stands.{LeavesHistory}
 use Rattle.ts_store.specs.State.{State}
 use Rattle.ts_store.specs.Step.{Stepped, does, refuses, with_layer, base_of, next_number, is_numbered, step_of}
 use Rattle.ts_store.specs.Stops.{LeavesFolder, kind_of}
 use Rattle.ts_store.proofs.NumberLaws.{AreLoaded-push, history_kept-push}
-use Rattle.ts_store.proofs.MadeLaws.{record_is, says_made, numbered}
+use Rattle.ts_store.proofs.MadeLaws.{record_is, says_made, says_any, numbered}
 
 module _ (layers : List Loaded) (last : Option ℕ) (body : List SignedTriple) (loaded : Loaded) (file : List ℕ) (are : AreLoaded layers) (newest : IsNewest layers last)
     (made : IsMade (history_kept layers) body loaded file) where
@@ -90,11 +93,16 @@ module _ (layers : List Loaded) (last : Option ℕ) (body : List SignedTriple) (
         subst (λ f. FolderSays f next) (sym (is ∙ ap (λ n. replaced folder (layer_name n) file) made.number))
         (subst (FolderSays (replaced folder (layer_name (next_number (history_kept layers))) file)) (sym (ap (λ (s : Stepped). s.state.history) stepped_is)) (says_made (history_kept layers) body loaded file made folder says))
 
+    abbrev Said : Stop → Type 0
+    Said stop = LeavesFolder (Err stop) (replaced folder (layer_name loaded.number) file) folder after → LeavesHistory (FolderSays after) (Err stop) (history_kept layers) next
+
+    said_at_fault : Said DiskFault
+    said_at_fault (inl any) = inl (says_any folder after (history_kept layers) any says)
+    said_at_fault (inr (inl same)) = inl (subst (λ f. FolderSays f (history_kept layers)) (sym same) says)
+    said_at_fault (inr (inr is)) = inr (says_next is)
+
     pub says_after : (result : Result Kind Stop) → IfErr result (λ stop. (stop ≡ DiskFault) ⊎ (stop ≡ OutputFault))
         → LeavesFolder result (replaced folder (layer_name loaded.number) file) folder after → LeavesHistory (FolderSays after) result (history_kept layers) next
-    says_after (Ok kind) why left = says_next left
-    says_after (Err OutputFault) why left = says_next left
-    says_after (Err DiskFault) why (inl any) = inl (says_any folder after (history_kept layers) any says)
-    says_after (Err DiskFault) why (inr (inl same)) = inl (subst (λ f. FolderSays f (history_kept layers)) (sym same) says)
-    says_after (Err DiskFault) why (inr (inr is)) = inr (says_next is)
-    says_after (Err Memory) why left = absurd (neither Memory (inl memory_is_no_disk_fault) why)
+    says_after (Ok kind) why = says_next
+    says_after (Err stop) (inl disk) = subst Said (sym disk) said_at_fault
+    says_after (Err stop) (inr output) = subst Said (sym output) says_next

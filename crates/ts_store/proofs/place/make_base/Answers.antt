@@ -9,7 +9,7 @@ pub returns-else-is_err-clause-loaded : goal.returns-else-is_err-clause-loaded
 returns-else-is_err-clause-loaded g c =
     let layers = c.args.layers.now.items in
     let made = c.in-Ok-Some.made in
-    let is = subst (λ (ls : List Loaded). IsMade (history_kept ls) c.args.body.now made.loaded made.file.items) c.as_slice.ensures.value (rw c.in-Ok-Some.field-0-is at c.in-Ok-Some.ensures) in
+    let is = subst (λ (ls : List Loaded). IsMade (history_kept ls) c.args.body.now made.loaded made.file.items) c.as_slice.ensures.value (rw c.in-Ok-Some.field-0-is at c.in-Ok-Some.ensures.made) in
     loaded_after layers c.args.last.now c.args.body.now made.loaded made.file.items c.requires.loaded c.requires.newest is c.place.new.layers.items c.place.new.last c.place.result
     (rw c.reserve.ensures.items at c.place.ensures.layers)
 
@@ -17,7 +17,7 @@ pub returns-else-is_err-clause-newest : goal.returns-else-is_err-clause-newest
 returns-else-is_err-clause-newest g c =
     let layers = c.args.layers.now.items in
     let made = c.in-Ok-Some.made in
-    let is = subst (λ (ls : List Loaded). IsMade (history_kept ls) c.args.body.now made.loaded made.file.items) c.as_slice.ensures.value (rw c.in-Ok-Some.field-0-is at c.in-Ok-Some.ensures) in
+    let is = subst (λ (ls : List Loaded). IsMade (history_kept ls) c.args.body.now made.loaded made.file.items) c.as_slice.ensures.value (rw c.in-Ok-Some.field-0-is at c.in-Ok-Some.ensures.made) in
     newest_after layers c.args.last.now c.args.body.now made.loaded made.file.items c.requires.loaded c.requires.newest is c.place.new.layers.items c.place.new.last c.place.result
     (rw c.reserve.ensures.items at c.place.ensures.layers)
 
@@ -25,7 +25,7 @@ pub returns-else-is_err-clause-state : goal.returns-else-is_err-clause-state
 returns-else-is_err-clause-state g c =
     let layers = c.args.layers.now.items in
     let made = c.in-Ok-Some.made in
-    let is = subst (λ (ls : List Loaded). IsMade (history_kept ls) c.args.body.now made.loaded made.file.items) c.as_slice.ensures.value (rw c.in-Ok-Some.field-0-is at c.in-Ok-Some.ensures) in
+    let is = subst (λ (ls : List Loaded). IsMade (history_kept ls) c.args.body.now made.loaded made.file.items) c.as_slice.ensures.value (rw c.in-Ok-Some.field-0-is at c.in-Ok-Some.ensures.made) in
     state_after layers c.args.last.now c.args.body.now made.loaded made.file.items c.requires.loaded c.requires.newest is c.place.new.layers.items c.place.new.last c.place.result
     (rw c.reserve.ensures.items at c.place.ensures.layers)
 
@@ -33,7 +33,6 @@ pub returns-else-is_err-clause-says : goal.returns-else-is_err-clause-says
 returns-else-is_err-clause-says g c = λ told says.
     let layers = c.args.layers.now.items in
     let made = c.in-Ok-Some.made in
-    let is = subst (λ (ls : List Loaded). IsMade (history_kept ls) c.args.body.now made.loaded made.file.items) c.as_slice.ensures.value (rw c.in-Ok-Some.field-0-is at c.in-Ok-Some.ensures) in
-    says_after layers c.args.last.now c.args.body.now made.loaded made.file.items c.requires.loaded c.requires.newest is c.place.new.layers.items c.place.new.last c.place.result
-    (g.W.Disk.now c.args.site.now) (g.W.Disk.now c.place.new.site)
-    (rw c.reserve.ensures.items at c.place.ensures.layers) (c.place.ensures.folder.1 told) says
+    let is = subst (λ (ls : List Loaded). IsMade (history_kept ls) c.args.body.now made.loaded made.file.items) c.as_slice.ensures.value (rw c.in-Ok-Some.field-0-is at c.in-Ok-Some.ensures.made) in
+    says_after layers c.args.last.now c.args.body.now made.loaded made.file.items c.requires.loaded c.requires.newest is (g.W.Disk.now c.args.site.now) (g.W.Disk.now c.place.new.site) says c.place.result
+    c.place.ensures.why (c.place.ensures.folder.1 told)
