@@ -7,6 +7,7 @@ pub mod LookupLaws
 pub mod NumberLaws
 pub mod NameLaws
 pub mod MadeLaws
+pub mod OneHistory
 pub mod OpenLaws
 pub mod PlaceLaws
 pub mod StandsLaws

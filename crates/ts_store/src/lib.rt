@@ -8,6 +8,7 @@
 //! before it and the command, and each fault is answered exactly where its count rose.
 #![tactic(auto)]
 
+pub use law::one_history;
 pub use session::Session;
 pub use stop::{Kind, Stop};
 
@@ -16,6 +17,7 @@ mod ask;
 mod base;
 mod doing;
 mod find;
+mod law;
 mod listing;
 mod loaded;
 mod open;
