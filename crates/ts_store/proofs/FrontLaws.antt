@@ -84,7 +84,8 @@ module _ {A : Type 0} (p : A → Bool) (f : A → List ℕ) (xs : List A) (i : �
 
 -- a front that lacks some of the text has fewer bytes
 front_shorter : (text old new rest : List ℕ) → 0 < length rest → SaysFront text old new rest → (n : ℕ) × (n < length text) × (new ≡ old ++ take n text)
-front_shorter text old new rest more (said, is, whole) =
+unfolding front_length
+front_shorter text old new rest longer (said, is, whole) =
     let whole_length = ap length whole in
     (length said, omega (arith, whole_length, length-append said rest), (front_length text old new rest (said, is, whole)).1)
 
@@ -94,14 +95,14 @@ line_is_longer text = omega (arith, length-append text (10 ∷ []))
 
 -- a front of the lines is one of the whole reply
 pub list_ended : (stop : Stop) (text total old new : List ℕ) → IsAskingStop stop → 0 < length total → (left : List ℕ) × SaysFront text old new left → LeavesTold (Err stop) (text ++ total) old new
-list_ended OutputFault text total old new why more (left, said) = front_length (text ++ total) old new (left ++ total) (front_longer text total (text ++ total) old new left refl said)
-list_ended Memory text total old new why more (left, said) =
+list_ended OutputFault text total old new why longer (left, said) = front_length (text ++ total) old new (left ++ total) (front_longer text total (text ++ total) old new left refl said)
+list_ended Memory text total old new why longer (left, said) =
     front_shorter (text ++ total) old new (left ++ total) (omega (arith, length-append left total)) (front_longer text total (text ++ total) old new left refl said)
-list_ended Usage text total old new why more said = absurd why
-list_ended (Damaged name) text total old new why more said = absurd why
-list_ended DiskFault text total old new why more said = absurd why
-list_ended InputFault text total old new why more said = absurd why
-list_ended InputLimit text total old new why more said = absurd why
+list_ended Usage text total old new why longer said = absurd why
+list_ended (Damaged name) text total old new why longer said = absurd why
+list_ended DiskFault text total old new why longer said = absurd why
+list_ended InputFault text total old new why longer said = absurd why
+list_ended InputLimit text total old new why longer said = absurd why
 
 -- what was left of the lines is said with the last one
 pub list_done : (result : Result Kind Stop) (text total old between new piece : List ℕ) → IfErr result IsAskingStop → SaysFront text old between piece → LeavesTold result (piece ++ total) between new → LeavesTold result (text ++ total) old new

@@ -73,17 +73,17 @@ module _ (state : State) (counted : AreCounted state.history) (folder : Folder) 
           subst (λ (l : LayerRecord). (l.parent ≡ None) × (term_count (members l.additions) < 2 ^ 32) × (predicate_count (members l.additions) < 2 ^ 32)) same (refl, ltb-true _ _ both.0, ltb-true _ _ both.1)
       each k layer false is = before k layer is
 
+  abbrev outcome : List SignedTriple → Bool → Stepped
+  outcome body b = if b then does (with_layer state (base_of body)) (reply_text (reply.Layer (next_number state.history))) else refuses state refusal.Full
+
   counted_next : (asked : Command) → FolderSays after (step_of state asked).state.history → AreCounted (step_of state asked).state.history
   counted_next (command.BadTriple line) told = counted
   counted_next (command.TooLong line) told = counted
   counted_next (command.Listing (AtLayer layer) pattern) told = subst (λ (s : State). AreCounted s.history) (sym (answered_same state layer (resolve state layer) _)) counted
   counted_next (command.Has (AtLayer layer) triple) told = subst (λ (s : State). AreCounted s.history) (sym (answered_same state layer (resolve state layer) _)) counted
-  counted_next (command.Base body) = by_test (is_numbered state.history (members (net_additions empty body))) refl
+  counted_next (command.Base body) told = by_test (is_numbered state.history (members (net_additions empty body))) refl told
     where
-      abbrev outcome : Bool → Stepped
-      outcome b = if b then does (with_layer state (base_of body)) (reply_text (reply.Layer (next_number state.history))) else refuses state refusal.Full
-
-      by_test : (b : Bool) → is_numbered state.history (members (net_additions empty body)) ≡ b → FolderSays after (outcome b).state.history → AreCounted (outcome b).state.history
+      by_test : (b : Bool) → is_numbered state.history (members (net_additions empty body)) ≡ b → FolderSays after (outcome body b).state.history → AreCounted (outcome body b).state.history
       by_test true e told = counted_base body (both_true (nat_lt (next_number state.history) (2 ^ 32)) (are_counted (members (net_additions empty body))) e).1 told
       by_test false e told = counted
 
