@@ -1,5 +1,9 @@
+pub mod AnswerLaws
+pub mod AskingLaws
+pub mod BodyLaws
 pub mod BodyLemmas
 pub mod BodySoFar
+pub mod CommandLaws
 pub mod CuttingLemmas
 pub mod LinesLemmas
 pub mod WordsLemmas

@@ -4,6 +4,7 @@
 //!   gives none.
 //! - [`Command`] is what words ask for, with its [`Body`] where it has one. It names a layer by a [`LayerRef`] or [`Ref`].
 //! - [`first_command`] reads it from the words and the rest of the input. [`ScriptStop`] is why it gives none.
+//!   By [`one_command`] there is one command to give, or none.
 //! - [`Reply`] and [`Refusal`] are what is told of a command; [`reply_line`] and [`refusal_line`] spell them as
 //!   a [`ReplyLine`].
 //!
@@ -15,6 +16,7 @@ mod body;
 mod command;
 mod cutter;
 mod first;
+mod law;
 mod reply;
 mod stop;
 #[cfg(test)]
@@ -24,5 +26,6 @@ mod words;
 pub use command::{Body, Command, LayerRef, Ref};
 pub use cutter::{InputStop, Line, LineCutter};
 pub use first::first_command;
+pub use law::one_command;
 pub use reply::{Refusal, Reply, ReplyLine, refusal_line, reply_line};
 pub use stop::ScriptStop;

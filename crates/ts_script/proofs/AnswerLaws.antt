@@ -1,0 +1,44 @@
+-- A line has one answer, and none where it is at fault.
+use Rattle.std.proofs.Common.{◌≡◌, inl, inr, ℕ, ◌≤◌, List, length, Option, None, Some, refl, sym, subst, chars, arith}
+use Rattle.ts_model.specs.declared.signed.Sign.{Sign}
+use Rattle.ts_model.specs.declared.signed.SignedTriple.{SignedTriple}
+use Rattle.ts_model.specs.Fact.{Fact, IsTriple}
+use Rattle.ts_nt.specs.LineRead.{Answers, IsBad, IsReadAs, IsSilent, IsTooLong, IsWithinLimits, Spells}
+use Rattle.ts_nt.proofs.ScalarLaws.{All-chars}
+use Rattle.ts_nt.proofs.TripleLaws.{silent_is_none, text_canonical, text_once}
+
+silent_or_spells : (line : List ℕ) (sign : Sign) (fact : Fact) → IsSilent line → Spells line sign fact → ⊥
+silent_or_spells line sign fact silent spells = silent_is_none (chars line) silent.1 sign fact spells.1
+
+pub answer_once : (line : List ℕ) (a b : Option SignedTriple) → Answers line a → Answers line b → a ≡ b
+answer_once line None None one other = refl
+answer_once line None (Some b) one other = absurd (silent_or_spells line b.sign b.triple one.1 other.1)
+answer_once line (Some a) None one other = absurd (silent_or_spells line a.sign a.triple other.1 one.1)
+answer_once line (Some a) (Some b) one other =
+    let same = text_once (chars line) a.sign b.sign a.triple b.triple one.1.1 other.1.1 in
+    λ i. Some (record { sign = same.0 i; triple = same.1 i })
+
+answered_within : (line : List ℕ) (answer : Option SignedTriple) → Answers line answer → length line ≤ 4194304
+answered_within line None read = read.0
+answered_within line (Some signed) read = read.0
+
+pub bad_unanswered : (line : List ℕ) (answer : Option SignedTriple) → IsBad line → Answers line answer → ⊥
+bad_unanswered line None bad read = bad.1 read.1
+bad_unanswered line (Some signed) bad read = bad.2 signed.sign signed.triple read.1
+
+pub long_unanswered : (line : List ℕ) (answer : Option SignedTriple) → IsTooLong line → Answers line answer → ⊥
+long_unanswered line answer (inl over) read = let within = answered_within line answer read in omega (arith, within)
+long_unanswered line None (inr (sign, fact, spells, over)) read = silent_or_spells line sign fact read.1 spells
+long_unanswered line (Some signed) (inr (sign, fact, spells, over)) read =
+    let same = text_once (chars line) sign signed.sign fact signed.triple spells.1 read.1.1 in
+    over (subst IsWithinLimits (sym same.1) read.2)
+
+pub bad_or_long : (line : List ℕ) → IsBad line → IsTooLong line → ⊥
+bad_or_long line bad (inl over) = omega arith
+bad_or_long line bad (inr (sign, fact, spells, over)) = bad.2 sign fact spells
+
+-- what a line is read as is a triple
+pub read_triple : (line : List ℕ) (signed : SignedTriple) → IsReadAs line signed → IsTriple signed.triple
+read_triple line signed read =
+    let terms = text_canonical (chars line) signed.sign signed.triple (All-chars line read.1.0) read.1.1 in
+    (read.1.1.kinds, (terms.0, read.2.0), (terms.1, read.2.1), (terms.2, read.2.2))

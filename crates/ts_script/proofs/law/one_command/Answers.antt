@@ -1,0 +1,11 @@
+use Rattle.ts_script.proofs.CommandLaws.{same_command, no_command_is_none, body_of_triples}
+use Rattle.ts_script.proofs.law.one_command.Goals as goal
+
+pub returns-clause-once : goal.returns-clause-once
+returns-clause-once c = same_command
+
+pub returns-clause-none : goal.returns-clause-none
+returns-clause-none c = no_command_is_none
+
+pub returns-clause-triples : goal.returns-clause-triples
+returns-clause-triples c = body_of_triples

@@ -1,0 +1,13 @@
+// What is true of every command.
+ghost use Rattle.std.specs.Prelude.{◌≡◌, ℕ, List, All};
+ghost use Rattle.ts_model.specs.Fact.{IsTriple};
+ghost use Rattle.ts_model.specs.declared.signed.SignedTriple.{SignedTriple};
+ghost use Rattle.ts_script.specs.Words.{IsCommand, IsNoCommand};
+ghost use Rattle.ts_script.specs.declared.command.Command.{Command};
+
+/// Words and the lines behind them are one command, or none. Each line of a body names a triple in its canonical spelling.
+pub fn one_command()
+    ensures once { (words : List (List ℕ)) (before : ℕ) (lines : List (List ℕ)) (a b : Command) → IsCommand words before lines a → IsCommand words before lines b → a ≡ b }
+    ensures none { (words : List (List ℕ)) (before : ℕ) (lines : List (List ℕ)) (asked : Command) → IsNoCommand words → IsCommand words before lines asked → ⊥ }
+    ensures triples { (words : List (List ℕ)) (before : ℕ) (lines : List (List ℕ)) (body : List SignedTriple) → IsCommand words before lines (Command.Base body) → All (λ line. IsTriple line.triple) body }
+{}
