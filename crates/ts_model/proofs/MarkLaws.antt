@@ -38,14 +38,14 @@ blank_label text text_is = (forward, back) where
   forward is = record {
     label = chars text;
     scalars = each_scalar (chars text) (scalars-chars text text_is);
-    has = is;
+    is_label = is;
     spelled = ap (λ l. 0x5F ∷ 0x3A ∷ l) (sym (encodes-chars text text_is));
   }
 
   back : IsBlankLabel (0x5F ∷ 0x3A ∷ text) → IsLabel (chars text)
   back blank =
       let spelled : text ≡ encode_utf8_all blank.label = ap (drop 2) blank.spelled in
-      subst IsLabel (sym (ap chars spelled ∙ chars-encodes blank.label (are_scalars blank.label blank.scalars))) blank.has
+      subst IsLabel (sym (ap chars spelled ∙ chars-encodes blank.label (are_scalars blank.label blank.scalars))) blank.is_label
 
 low : (c : ℕ) → c < 128 → IsScalar c
 low c small = low_scalar c (omega arith)
@@ -55,13 +55,13 @@ language_ending text text_is = (forward, back) where
   forward : IsTag (chars text) → IsLanguageEnding (0x40 ∷ text)
   forward is = record {
     tag = chars text;
-    has = is;
+    is_tag = is;
     spelled = ap (λ l. 0x40 ∷ l) (sym (encodes-chars text text_is) ∙ ascii_as_written (chars text) (tag_ascii (chars text) is));
   }
 
   back : IsLanguageEnding (0x40 ∷ text) → IsTag (chars text)
   back ending =
-      let small = tag_ascii ending.tag ending.has in
+      let small = tag_ascii ending.tag ending.is_tag in
       let bytes : text ≡ encode_utf8_all ending.tag = ap (drop 1) ending.spelled ∙ sym (ascii_as_written ending.tag small) in
       let scalars = are_scalars ending.tag (All-weaker (λ c. c < 128) IsScalar low ending.tag small) in
-      subst IsTag (sym (ap chars bytes ∙ chars-encodes ending.tag scalars)) ending.has
+      subst IsTag (sym (ap chars bytes ∙ chars-encodes ending.tag scalars)) ending.is_tag

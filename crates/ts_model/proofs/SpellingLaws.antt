@@ -57,7 +57,7 @@ ending_text ending (inl none) = subst IsUtf8 (sym none) IsUtf8-nil
 ending_text ending (inr (inl type)) =
     subst IsUtf8 (sym type.spelled) (ascii_then 0x5E _ (omega arith) (ascii_then 0x5E _ (omega arith) (iri_text type.characters type.scalars)))
 ending_text ending (inr (inr tag)) =
-    subst IsUtf8 (sym tag.spelled) (ascii_then 0x40 _ (omega arith) (all_ascii tag.tag (tag_ascii tag.tag tag.has)))
+    subst IsUtf8 (sym tag.spelled) (ascii_then 0x40 _ (omega arith) (all_ascii tag.tag (tag_ascii tag.tag tag.is_tag)))
 
 literal_text : (spelling : List ℕ) → IsLiteral spelling → IsUtf8 spelling
 literal_text spelling literal =

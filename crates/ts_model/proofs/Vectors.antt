@@ -62,7 +62,7 @@ tagged = record {
   ending = codes "@EN";
   ends = inr (inr (record {
     tag = codes "EN";
-    has = (codes "EN", [], letters, All-nil _, refl);
+    is_tag = (codes "EN", [], letters, All-nil _, refl);
     spelled = refl;
   }));
   spelled = refl;

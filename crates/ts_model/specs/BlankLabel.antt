@@ -22,5 +22,5 @@ IsLabel label = (first : ℕ) × (others : List ℕ) × IsTrue (starts_label fir
 pub record IsBlankLabel (spelling : List ℕ) : Type 0 where
   pub label : List ℕ
   pub scalars : All IsScalar label
-  pub has : IsLabel label
+  pub is_label : IsLabel label
   pub spelled : spelling ≡ 0x5F ∷ 0x3A ∷ encode_utf8_all label

@@ -41,7 +41,7 @@ IsTag tag = (first : List ℕ) × (others : List (List ℕ)) × IsFirstPart firs
 -- `@` and a tag
 pub record IsLanguageEnding (ending : List ℕ) : Type 0 where
   pub tag : List ℕ
-  pub has : IsTag tag
+  pub is_tag : IsTag tag
   pub spelled : ending ≡ 0x40 ∷ tag
 
 abbrev pub IsEnding : List ℕ → Type 0

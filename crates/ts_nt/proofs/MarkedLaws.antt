@@ -38,7 +38,7 @@ label_canonical text spelling rest scalars (behind, label, begins, longest, spel
     let marked = All-same IsScalar (0x5F ∷ 0x3A ∷ behind) text (sym begins) scalars in
     let inside = All-tail IsScalar 0x3A behind (All-tail IsScalar 0x5F (0x3A ∷ behind) marked) in
     let parts = all_front IsScalar label rest (All-same IsScalar (label ++ rest) behind (sym longest.parts) inside) in
-    (record { label = label; scalars = parts.0; has = longest.has; spelled = spelled }, parts.1)
+    (record { label = label; scalars = parts.0; is_label = longest.has; spelled = spelled }, parts.1)
 
 pub label_prints : (spelling : List ℕ) → IsBlankLabel spelling → PrintsBeforeSpace (λ text rest. LabelAt text spelling rest) spelling
 label_prints spelling canonical =
@@ -47,7 +47,7 @@ label_prints spelling canonical =
       0x5F ∷ 0x3A ∷ label,
       scalars,
       label_bytes label ∙ sym canonical.spelled,
-      λ more. (label ++ 0x20 ∷ more, label, refl, longest_before IsLabel InLabel label (0x20 ∷ more) canonical.has (space_ends_label more) label_in_label, canonical.spelled),
+      λ more. (label ++ 0x20 ∷ more, label, refl, longest_before IsLabel InLabel label (0x20 ∷ more) canonical.is_label (space_ends_label more) label_in_label, canonical.spelled),
     )
 
 pub tag_once : (text a b r s : List ℕ) → TagAt text a r → TagAt text b s → (a ≡ b) × (r ≡ s)
@@ -61,14 +61,14 @@ pub tag_canonical : (text ending rest : List ℕ) → All IsScalar text → TagA
 tag_canonical text ending rest scalars (behind, tag, begins, longest, spelled) =
     let inside = All-tail IsScalar 0x40 behind (All-same IsScalar (0x40 ∷ behind) text (sym begins) scalars) in
     let parts = all_front IsScalar tag rest (All-same IsScalar (tag ++ rest) behind (sym longest.parts) inside) in
-    (record { tag = tag; has = longest.has; spelled = spelled }, parts.1)
+    (record { tag = tag; is_tag = longest.has; spelled = spelled }, parts.1)
 
 pub tag_prints : (ending : List ℕ) → IsLanguageEnding ending → PrintsBeforeSpace (λ text rest. TagAt text ending rest) ending
 tag_prints ending canonical =
     let tag = canonical.tag in
-    let small = All-cons (λ c. c < 128) 0x40 tag (lit< tt) (tag_ascii tag canonical.has) in (
+    let small = All-cons (λ c. c < 128) 0x40 tag (lit< tt) (tag_ascii tag canonical.is_tag) in (
       0x40 ∷ tag,
       All-weaker (λ c. c < 128) IsScalar scalar_ascii (0x40 ∷ tag) small,
-      tag_bytes tag canonical.has ∙ sym canonical.spelled,
-      λ more. (tag ++ 0x20 ∷ more, tag, refl, longest_before IsTag InTag tag (0x20 ∷ more) canonical.has (space_ends_tag more) tag_in_tag, canonical.spelled),
+      tag_bytes tag canonical.is_tag ∙ sym canonical.spelled,
+      λ more. (tag ++ 0x20 ∷ more, tag, refl, longest_before IsTag InTag tag (0x20 ∷ more) canonical.is_tag (space_ends_tag more) tag_in_tag, canonical.spelled),
     )

@@ -111,7 +111,7 @@ ending_ends : (ending : List ℕ) → IsEnding ending → NoEnd ending
 ending_ends ending (inl empty) = same empty none
 ending_ends ending (inr (inl typed)) = same typed.spelled (mark 0x5E refl (mark 0x5E refl (iri_ends typed.characters)))
 ending_ends ending (inr (inr tagged)) =
-    same tagged.spelled (mark 0x40 refl (tag_ends tagged.tag tagged.has))
+    same tagged.spelled (mark 0x40 refl (tag_ends tagged.tag tagged.is_tag))
 
 label_ends : (label : List ℕ) → IsLabel label → NoEnd label
 label_ends label is = class is_label_character refl label (label_in_label label is)
@@ -122,7 +122,7 @@ iri_spelled spelling iri = same iri.spelled (iri_ends iri.characters)
 canonical_ends : (kind : TermKind) (spelling : List ℕ) → IsCanonical kind spelling → NoEnd spelling
 canonical_ends Node spelling (inl iri) = iri_spelled spelling iri
 canonical_ends Node spelling (inr blank) =
-    same blank.spelled (mark 0x5F refl (mark 0x3A refl (all_encoded blank.label (label_ends blank.label blank.has).all)))
+    same blank.spelled (mark 0x5F refl (mark 0x3A refl (all_encoded blank.label (label_ends blank.label blank.is_label).all)))
 canonical_ends Predicate spelling iri = iri_spelled spelling iri
 canonical_ends Value spelling literal = same literal.spelled (joined (string_ends literal.characters) (ending_ends literal.ending literal.ends))
 
