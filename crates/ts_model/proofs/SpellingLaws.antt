@@ -1,22 +1,21 @@
 -- A canonical spelling is UTF-8.
-use Rattle.std.specs.Prelude.{◌≡◌, ℕ, ◌<◌, ◌/◌, ◌%◌, true, ◌||◌, List, [], ◌∷◌, flat_map, encode_utf8_all, All, IsTrue, IsUtf8}
+use Rattle.std.specs.Prelude.{ℕ, ◌<◌, ◌/◌, ◌%◌, List, [], ◌∷◌, flat_map, encode_utf8_all, All, IsUtf8}
 use Rattle.std.specs.Char.{IsScalar}
 use Rattle.std.proofs.Common.{sym, refl, arith, subst, inl, inr}
-use Rattle.std.proofs.lemmas.Bool.{cases_Bool, or_cases}
-use Rattle.std.proofs.lemmas.Bool.Decides.{nat_tests}
-use Rattle.std.proofs.lemmas.List.Elements.{All-head, All-tail, All-weaker}
+use Rattle.std.proofs.lemmas.Bool.{cases_Bool}
 use Rattle.std.proofs.lemmas.Str.{IsUtf8-append, IsUtf8-nil, IsUtf8-encode}
 use Rattle.ts_model.specs.declared.term.TermKind.{TermKind}
 use Rattle.ts_model.specs.declared.term.TermKind.TheVariants.{Node, Predicate, Value}
-use Rattle.ts_model.specs.Characters.{is_letter, is_digit, is_iri_character}
+use Rattle.ts_model.specs.Characters.{is_iri_character}
 use Rattle.ts_model.specs.Iri.{iri_escape, iri_character, iri_spelling}
 use Rattle.ts_model.specs.BlankLabel.{IsBlankLabel}
-use Rattle.ts_model.specs.Literal.{string_character, IsLiteral, IsEnding, IsNextPart}
+use Rattle.ts_model.specs.Literal.{string_character, IsLiteral, IsEnding}
 use Rattle.ts_model.specs.Canonical.{IsCanonical}
 use Rattle.ts_model.proofs.TextLaws.{are_scalars, ascii_then, all_ascii, written_text}
 use Rattle.ts_model.proofs.IriLaws.{direct_written, escape_written, escaped_below, digit_below}
 use Rattle.ts_model.proofs.LiteralLaws.{is_written, plain_written, letter_below}
 use Rattle.ts_model.proofs.LiteralLaws.Written.{escaped, plain}
+use Rattle.ts_model.proofs.TagFronts.{tag_ascii}
 
 -- ---- IRIs
 
@@ -43,7 +42,7 @@ all_text cs scalars = (cs, (are_scalars cs scalars, refl))
 
 label_text : (spelling : List ℕ) → IsBlankLabel spelling → IsUtf8 spelling
 label_text spelling label =
-    subst IsUtf8 (sym label.spelled) (ascii_then 0x5F _ (omega arith) (ascii_then 0x3A _ (omega arith) (all_text (label.first ∷ label.rest) label.scalars)))
+    subst IsUtf8 (sym label.spelled) (ascii_then 0x5F _ (omega arith) (ascii_then 0x3A _ (omega arith) (all_text label.label label.scalars)))
 
 -- ---- literals
 
@@ -53,29 +52,12 @@ string_character_text c scalar = elim (is_written c) [
   | plain is ↦ subst IsUtf8 (sym (plain_written c is)) (IsUtf8-encode c scalar)
 ]
 
-letter_ascii : (b : ℕ) → is_letter b ≡ true → b < 128
-letter_ascii b is = grind (arith, nat_tests)
-
-digit_ascii : (b : ℕ) → is_digit b ≡ true → b < 128
-digit_ascii b is = grind (arith, nat_tests)
-
-alphanumeric_ascii : (b : ℕ) → IsTrue (is_letter b || is_digit b) → b < 128
-alphanumeric_ascii b is = elim (or_cases _ _ is) [ inl letter ↦ letter_ascii b letter | inr digit ↦ digit_ascii b digit ]
-
-parts_text : (others : List (List ℕ)) → All IsNextPart others → IsUtf8 (flat_map (λ part. 0x2D ∷ part) others)
-parts_text [] each = IsUtf8-nil
-parts_text (part ∷ others) each =
-    let this : IsNextPart part = All-head IsNextPart part others each in
-    IsUtf8-append (0x2D ∷ part) _ (ascii_then 0x2D part (omega arith) (all_ascii part (All-weaker _ (λ b. b < 128) alphanumeric_ascii part this.1)))
-    (parts_text others (All-tail IsNextPart part others each))
-
 ending_text : (ending : List ℕ) → IsEnding ending → IsUtf8 ending
 ending_text ending (inl none) = subst IsUtf8 (sym none) IsUtf8-nil
 ending_text ending (inr (inl type)) =
     subst IsUtf8 (sym type.spelled) (ascii_then 0x5E _ (omega arith) (ascii_then 0x5E _ (omega arith) (iri_text type.characters type.scalars)))
 ending_text ending (inr (inr tag)) =
-    subst IsUtf8 (sym tag.spelled) (ascii_then 0x40 _ (omega arith)
-    (IsUtf8-append tag.first _ (all_ascii tag.first (All-weaker _ (λ b. b < 128) letter_ascii tag.first tag.starts.1)) (parts_text tag.others tag.continues)))
+    subst IsUtf8 (sym tag.spelled) (ascii_then 0x40 _ (omega arith) (all_ascii tag.tag (tag_ascii tag.tag tag.is_tag)))
 
 literal_text : (spelling : List ℕ) → IsLiteral spelling → IsUtf8 spelling
 literal_text spelling literal =

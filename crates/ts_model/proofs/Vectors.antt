@@ -12,7 +12,7 @@ use Rattle.ts_model.specs.Characters.{is_letter}
 use Rattle.ts_model.specs.Fact.{Fact}
 use Rattle.ts_model.specs.Iri.{IsIri, iri_spelling}
 use Rattle.ts_model.specs.LayerText.{layer_text}
-use Rattle.ts_model.specs.Literal.{string_spelling}
+use Rattle.ts_model.specs.Literal.{string_spelling, IsFirstPart}
 use Rattle.ts_model.specs.NetChange.{last_sign}
 
 one_letter : (c : ℕ) → IsScalar c → All IsScalar (c ∷ [])
@@ -61,14 +61,14 @@ tagged = record {
   scalars = one_letter 97 refl;
   ending = codes "@EN";
   ends = inr (inr (record {
-    first = codes "EN";
-    others = [];
-    starts = ((λ e. cc e), All-cons (λ c. is_letter c ≡ true) 0x45 (0x4E ∷ []) refl (All-cons (λ c. is_letter c ≡ true) 0x4E [] refl (All-nil (λ c. is_letter c ≡ true))));
-    continues = All-nil _;
+    tag = codes "EN";
+    is_tag = (codes "EN", [], letters, All-nil _, refl);
     spelled = refl;
   }));
   spelled = refl;
-}
+} where
+  letters : IsFirstPart (codes "EN")
+  letters = ((λ e. cc e), All-cons (λ c. is_letter c ≡ true) 0x45 (0x4E ∷ []) refl (All-cons (λ c. is_letter c ≡ true) 0x4E [] refl (All-nil (λ c. is_letter c ≡ true))))
 
 -- ---- layers
 

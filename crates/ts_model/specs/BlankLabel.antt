@@ -15,10 +15,12 @@ IsLabelRest rest =
     (rest ≡ [])
     ⊎ ((middle : List ℕ) × ((last : ℕ) × (All (λ c. IsTrue (is_label_character c)) middle × IsTrue (is_name_character last) × (rest ≡ middle ++ last ∷ []))))
 
+-- what BLANK_NODE_LABEL has behind `_:`
+abbrev pub IsLabel : List ℕ → Type 0
+IsLabel label = (first : ℕ) × (others : List ℕ) × IsTrue (starts_label first) × IsLabelRest others × (label ≡ first ∷ others)
+
 pub record IsBlankLabel (spelling : List ℕ) : Type 0 where
-  pub first : ℕ
-  pub rest : List ℕ
-  pub scalars : All IsScalar (first ∷ rest)
-  pub starts : IsTrue (starts_label first)
-  pub continues : IsLabelRest rest
-  pub spelled : spelling ≡ 0x5F ∷ 0x3A ∷ encode_utf8_all (first ∷ rest)
+  pub label : List ℕ
+  pub scalars : All IsScalar label
+  pub is_label : IsLabel label
+  pub spelled : spelling ≡ 0x5F ∷ 0x3A ∷ encode_utf8_all label

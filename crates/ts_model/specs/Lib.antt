@@ -10,6 +10,7 @@ pub mod Iri
 pub mod LayerText
 pub mod Listing
 pub mod Literal
+pub mod Longest
 pub mod Names
 pub mod NetChange
 pub mod Order

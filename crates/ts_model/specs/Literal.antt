@@ -34,13 +34,15 @@ IsFirstPart part = (part ≢ []) × All (λ c. IsTrue (is_letter c)) part
 abbrev pub IsNextPart : List ℕ → Type 0
 IsNextPart part = (part ≢ []) × All (λ c. IsTrue (is_letter c || is_digit c)) part
 
--- `@`, then parts with `-` between them
+-- what LANGTAG has behind `@`: parts with `-` between them
+abbrev pub IsTag : List ℕ → Type 0
+IsTag tag = (first : List ℕ) × (others : List (List ℕ)) × IsFirstPart first × All IsNextPart others × (tag ≡ first ++ flat_map (λ part. 0x2D ∷ part) others)
+
+-- `@` and a tag
 pub record IsLanguageEnding (ending : List ℕ) : Type 0 where
-  pub first : List ℕ
-  pub others : List (List ℕ)
-  pub starts : IsFirstPart first
-  pub continues : All IsNextPart others
-  pub spelled : ending ≡ 0x40 ∷ first ++ flat_map (λ part. 0x2D ∷ part) others
+  pub tag : List ℕ
+  pub is_tag : IsTag tag
+  pub spelled : ending ≡ 0x40 ∷ tag
 
 abbrev pub IsEnding : List ℕ → Type 0
 IsEnding ending = (ending ≡ []) ⊎ (IsTypeEnding ending ⊎ IsLanguageEnding ending)

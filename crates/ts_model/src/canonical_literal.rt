@@ -74,7 +74,7 @@ fn is_ending(text: &str) -> bool
         return is_written_type(iri);
     }
     if let Some(tag) = after_mark(text, "@") {
-        return is_tag(tag.as_bytes());
+        return is_tag(tag);
     }
     text.is_empty()
 }

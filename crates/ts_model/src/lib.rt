@@ -1,7 +1,8 @@
 //! The model of a store: terms, triples, bodies, names and layer numbers, without a file.
 //!
 //! A [`Term`] is a kind and its canonical spelling, as [`is_canonical`] decides it; a [`Triple`] is three of them, in the
-//! order of their bytes; a [`Pattern`] takes some triples. A body is a list of [`SignedTriple`], and [`net_additions`] is
+//! order of their bytes; a [`Pattern`] takes some triples. [`split_char`], [`after_label`] and [`after_tag`] read the front of
+//! a text. A body is a list of [`SignedTriple`], and [`net_additions`] is
 //! what it adds to a new base, of which [`totals_of`] counts the terms. [`LabelName`], [`CursorName`] and [`layer_text`]
 //! name what a store has.
 //!
@@ -11,14 +12,14 @@
 #![tactic(auto)]
 
 pub use canonical::is_canonical;
-pub use characters::{
-    is_digit, is_direct_in_iri, is_letter, is_name_character, is_name_start, split_char,
-};
+pub use characters::{is_direct_in_iri, split_char};
+pub use label::after_label;
 pub use layer::{layer_number, layer_text};
 pub use names::{CursorName, LabelName};
 pub use net::net_additions;
 pub use pattern::Pattern;
 pub use signed::{Sign, SignedTriple};
+pub use tag::after_tag;
 pub use term::{Term, TermError, TermKind};
 pub use totals::{Totals, totals_of};
 pub use triple::Triple;
@@ -30,11 +31,13 @@ mod canonical_literal;
 mod canonical_mark;
 mod canonical_tag;
 mod characters;
+mod label;
 mod layer;
 mod names;
 mod net;
 mod pattern;
 mod signed;
+mod tag;
 mod term;
 #[cfg(test)]
 mod tests;

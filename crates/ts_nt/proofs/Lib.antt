@@ -1,12 +1,11 @@
 pub mod BlankLaws
 mod Characters
 pub mod FindsLaws
-pub mod Fronts
 mod HexDigits
 mod ItemLaws
-pub mod LabelFronts
 pub mod LineLaws
 pub mod LiteralLaws
+pub mod MarkedFronts
 pub mod MarkedLaws
 pub mod NodeLaws
 pub mod PrintLaws
@@ -14,7 +13,7 @@ pub mod Printing
 pub mod QuotedLaws
 mod ReadsLaws
 pub mod ScalarLaws
-pub mod TagFronts
+pub mod Seams
 pub mod TermLaws
 pub mod TripleLaws
 pub mod TypeLaws

@@ -1,18 +1,19 @@
 -- Blank labels and language tags at the front of a text: there is one reading, it is canonical, and what is canonical is read back.
-use Rattle.std.specs.Prelude.{◌≡◌, ℕ, List, ◌∷◌, ◌++◌, ◌<◌, ◌==◌, ◌||◌, flat_map, All, encode_utf8_all, refl}
+use Rattle.std.specs.Prelude.{◌≡◌, ℕ, List, ◌∷◌, ◌++◌, ◌<◌, ◌==◌, ◌||◌, All, encode_utf8_all, refl}
 use Rattle.std.specs.Char.{IsScalar}
 use Rattle.std.proofs.Common.{sym, ap, subst, ◌∙◌, arith, lit<, true≢false}
 use Rattle.std.proofs.Math.Utf8.{low_scalar}
 use Rattle.std.proofs.lemmas.List.Elements.{All-cons, All-same, All-tail, All-weaker}
-use Rattle.ts_model.specs.BlankLabel.{is_label_character, IsBlankLabel}
+use Rattle.ts_model.specs.BlankLabel.{is_label_character, IsLabel, IsBlankLabel}
 use Rattle.ts_model.specs.Characters.{is_letter, is_digit}
-use Rattle.ts_model.specs.Literal.{IsLanguageEnding}
-use Rattle.ts_nt.specs.Reading.{IsLongest}
-use Rattle.ts_nt.specs.Terms.{LabelAt, TagAt, IsLabel, IsTag}
-use Rattle.ts_nt.proofs.Fronts.{Stops, same_heads, all_front, longest_once, longest_before}
-use Rattle.ts_nt.proofs.LabelFronts.{InLabel, label_in_label, label_bytes}
+use Rattle.ts_model.specs.Literal.{IsTag, IsLanguageEnding}
+use Rattle.ts_model.specs.Longest.{IsLongest}
+use Rattle.ts_model.proofs.Fronts.{Stops, same_heads, all_front, longest_once, longest_before}
+use Rattle.ts_model.proofs.LabelFronts.{InLabel, label_in_label}
+use Rattle.ts_model.proofs.TagFronts.{InTag, tag_in_tag, tag_ascii}
+use Rattle.ts_nt.specs.Terms.{LabelAt, TagAt}
+use Rattle.ts_nt.proofs.MarkedFronts.{label_bytes, tag_bytes}
 use Rattle.ts_nt.proofs.Printing.{PrintsBeforeSpace}
-use Rattle.ts_nt.proofs.TagFronts.{InTag, tag_in_tag, small_in_tag, tag_bytes}
 
 scalar_ascii : (c : ℕ) → c < 128 → IsScalar c
 scalar_ascii c small = low_scalar c (omega arith)
@@ -37,27 +38,16 @@ label_canonical text spelling rest scalars (behind, label, begins, longest, spel
     let marked = All-same IsScalar (0x5F ∷ 0x3A ∷ behind) text (sym begins) scalars in
     let inside = All-tail IsScalar 0x3A behind (All-tail IsScalar 0x5F (0x3A ∷ behind) marked) in
     let parts = all_front IsScalar label rest (All-same IsScalar (label ++ rest) behind (sym longest.parts) inside) in
-    (canonical longest.has (parts.0), parts.1)
-  where
-    canonical : IsLabel label → All IsScalar label → IsBlankLabel spelling
-    canonical (first, others, starts, continues, is) all = record {
-      first = first;
-      rest = others;
-      scalars = All-same IsScalar (first ∷ others) label (sym is) all;
-      starts = starts;
-      continues = continues;
-      spelled = spelled ∙ ap (λ l. 0x5F ∷ 0x3A ∷ encode_utf8_all l) is;
-    }
+    (record { label = label; scalars = parts.0; is_label = longest.has; spelled = spelled }, parts.1)
 
 pub label_prints : (spelling : List ℕ) → IsBlankLabel spelling → PrintsBeforeSpace (λ text rest. LabelAt text spelling rest) spelling
 label_prints spelling canonical =
-    let label = canonical.first ∷ canonical.rest in
-    let is : IsLabel label = (canonical.first, canonical.rest, canonical.starts, canonical.continues, refl) in
+    let label = canonical.label in
     let scalars = All-cons IsScalar 0x5F (0x3A ∷ label) (scalar_ascii 0x5F (lit< tt)) (All-cons IsScalar 0x3A label (scalar_ascii 0x3A (lit< tt)) canonical.scalars) in (
       0x5F ∷ 0x3A ∷ label,
       scalars,
       label_bytes label ∙ sym canonical.spelled,
-      λ more. (label ++ 0x20 ∷ more, label, refl, longest_before IsLabel InLabel label (0x20 ∷ more) is (space_ends_label more) label_in_label, canonical.spelled),
+      λ more. (label ++ 0x20 ∷ more, label, refl, longest_before IsLabel InLabel label (0x20 ∷ more) canonical.is_label (space_ends_label more) label_in_label, canonical.spelled),
     )
 
 pub tag_once : (text a b r s : List ℕ) → TagAt text a r → TagAt text b s → (a ≡ b) × (r ≡ s)
@@ -71,24 +61,14 @@ pub tag_canonical : (text ending rest : List ℕ) → All IsScalar text → TagA
 tag_canonical text ending rest scalars (behind, tag, begins, longest, spelled) =
     let inside = All-tail IsScalar 0x40 behind (All-same IsScalar (0x40 ∷ behind) text (sym begins) scalars) in
     let parts = all_front IsScalar tag rest (All-same IsScalar (tag ++ rest) behind (sym longest.parts) inside) in
-    (canonical longest.has, parts.1)
-  where
-    canonical : IsTag tag → IsLanguageEnding ending
-    canonical (first, others, starts, continues, is) = record {
-      first = first;
-      others = others;
-      starts = starts;
-      continues = continues;
-      spelled = spelled ∙ ap (λ t. 0x40 ∷ t) is;
-    }
+    (record { tag = tag; is_tag = longest.has; spelled = spelled }, parts.1)
 
 pub tag_prints : (ending : List ℕ) → IsLanguageEnding ending → PrintsBeforeSpace (λ text rest. TagAt text ending rest) ending
 tag_prints ending canonical =
-    let tag = canonical.first ++ flat_map (λ part. 0x2D ∷ part) canonical.others in
-    let is : IsTag tag = (canonical.first, canonical.others, canonical.starts, canonical.continues, refl) in
-    let small = All-cons (λ c. c < 128) 0x40 tag (lit< tt) (All-weaker InTag (λ c. c < 128) small_in_tag tag (tag_in_tag tag is)) in (
+    let tag = canonical.tag in
+    let small = All-cons (λ c. c < 128) 0x40 tag (lit< tt) (tag_ascii tag canonical.is_tag) in (
       0x40 ∷ tag,
       All-weaker (λ c. c < 128) IsScalar scalar_ascii (0x40 ∷ tag) small,
-      tag_bytes tag is ∙ sym canonical.spelled,
-      λ more. (tag ++ 0x20 ∷ more, tag, refl, longest_before IsTag InTag tag (0x20 ∷ more) is (space_ends_tag more) tag_in_tag, canonical.spelled),
+      tag_bytes tag canonical.is_tag ∙ sym canonical.spelled,
+      λ more. (tag ++ 0x20 ∷ more, tag, refl, longest_before IsTag InTag tag (0x20 ∷ more) canonical.is_tag (space_ends_tag more) tag_in_tag, canonical.spelled),
     )

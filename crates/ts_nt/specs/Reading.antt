@@ -1,16 +1,10 @@
 -- Productions of the grammar, each at the front of a text: what stands there, and the text after it. A text is a list of characters.
-use Rattle.std.specs.Prelude.{◌≡◌, ℕ, ◌≤◌, List, [], ◌∷◌, ◌++◌, length, Option, None, Some}
+use Rattle.std.specs.Prelude.{◌≡◌, ℕ, List, [], ◌∷◌, ◌++◌, Option, None, Some}
 
 -- any number of items at the front of a text, each as `item` reads it, and the text after them
 abbrev pub Reads : (List ℕ → Option (ℕ × List ℕ)) → List ℕ → List ℕ → List ℕ → Type 0
 Reads item text [] rest = text ≡ rest
 Reads item text (c ∷ characters) rest = (more : List ℕ) × (item text ≡ Some (c, more)) × Reads item more characters rest
-
--- the longest front of a text that has P, and the text after it
-pub record IsLongest (P : List ℕ → Type 0) (text front rest : List ℕ) : Type 0 where
-  pub has : P front
-  pub parts : text ≡ front ++ rest
-  pub longest : (other more : List ℕ) → P other → text ≡ other ++ more → length other ≤ length front
 
 -- What is read of a production that spells something: its spelling behind what stood there and the text after it, or
 -- nothing, where the production doesn't stand at the front of the text.

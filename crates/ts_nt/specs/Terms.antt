@@ -1,12 +1,13 @@
 -- The terms of RDF 1.1 N-Triples at the front of a text, with the one canonical spelling of each.
-use Rattle.std.specs.Prelude.{◌≡◌, ◌⊎◌, ℕ, ◌==◌, ◌||◌, Bool, false, if◌then◌else◌, List, [], ◌∷◌, ◌++◌, flat_map, encode_utf8_all, All, IsTrue}
+use Rattle.std.specs.Prelude.{◌≡◌, ◌⊎◌, ℕ, ◌==◌, ◌||◌, Bool, false, if◌then◌else◌, List, [], ◌∷◌, ◌++◌, encode_utf8_all}
 use Rattle.std.specs.Str.{bytes_eq}
 use Rattle.ts_model.specs.declared.term.TermKind.{TermKind}
 use Rattle.ts_model.specs.declared.term.TermKind.TheVariants.{Node, Predicate, Value}
-use Rattle.ts_model.specs.BlankLabel.{starts_label, IsLabelRest}
+use Rattle.ts_model.specs.BlankLabel.{IsLabel}
 use Rattle.ts_model.specs.Iri.{iri_spelling}
-use Rattle.ts_model.specs.Literal.{string_spelling, string_type, IsFirstPart, IsNextPart}
-use Rattle.ts_nt.specs.Reading.{Reads, IsLongest}
+use Rattle.ts_model.specs.Literal.{string_spelling, string_type, IsTag}
+use Rattle.ts_model.specs.Longest.{IsLongest}
+use Rattle.ts_nt.specs.Reading.{Reads}
 use Rattle.ts_nt.specs.Items.{iri_item, string_item}
 
 -- IRIREF: `<`, characters, `>`
@@ -20,14 +21,6 @@ pub record IsString (text characters rest : List ℕ) : Type 0 where
   pub inside : List ℕ
   pub begins : text ≡ 0x22 ∷ inside
   pub reads : Reads string_item inside characters (0x22 ∷ rest)
-
--- what BLANK_NODE_LABEL has behind `_:`
-abbrev pub IsLabel : List ℕ → Type 0
-IsLabel label = (first : ℕ) × (others : List ℕ) × IsTrue (starts_label first) × IsLabelRest others × (label ≡ first ∷ others)
-
--- what LANGTAG has behind `@`
-abbrev pub IsTag : List ℕ → Type 0
-IsTag tag = (first : List ℕ) × (others : List (List ℕ)) × IsFirstPart first × All IsNextPart others × (tag ≡ first ++ flat_map (λ part. 0x2D ∷ part) others)
 
 -- an IRI
 abbrev pub IriAt : List ℕ → List ℕ → List ℕ → Type 0

@@ -6,13 +6,15 @@ use Rattle.std.proofs.lemmas.Bool.Decides.{nat_tests}
 use Rattle.std.proofs.lemmas.List.Elements.{All-nil, All-cons, All-append, All-head, All-tail, All-weaker}
 use Rattle.ts_model.specs.declared.term.TermKind.{TermKind}
 use Rattle.ts_model.specs.declared.term.TermKind.TheVariants.{Node, Predicate, Value}
-use Rattle.ts_model.specs.Characters.{is_letter, is_digit, is_iri_character, is_name_character}
+use Rattle.ts_model.specs.Characters.{is_letter, is_digit, is_iri_character}
 use Rattle.ts_model.specs.Iri.{upper_digit, iri_escape, iri_character, iri_spelling, IsIri}
-use Rattle.ts_model.specs.BlankLabel.{starts_label, is_label_character, IsLabelRest}
-use Rattle.ts_model.specs.Literal.{string_character, string_spelling, IsNextPart, IsEnding}
+use Rattle.ts_model.specs.BlankLabel.{is_label_character, IsLabel}
+use Rattle.ts_model.specs.Literal.{string_character, string_spelling, IsTag, IsEnding}
 use Rattle.ts_model.specs.Canonical.{IsCanonical}
 use Rattle.ts_model.specs.Fact.{Fact, IsTriple}
 use Rattle.ts_model.proofs.IriLaws.{direct_written, escape_written}
+use Rattle.ts_model.proofs.LabelFronts.{label_in_label}
+use Rattle.ts_model.proofs.TagFronts.{tag_in_tag}
 use Rattle.ts_nt.specs.TripleLine.{triple_line}
 use Rattle.ts_plain.specs.PlainReading.{HasNoEnd}
 
@@ -102,31 +104,25 @@ string_character_ends c =
 string_ends : (characters : List ℕ) → NoEnd (string_spelling characters)
 string_ends characters = mark 0x22 refl (joined (each string_character string_character_ends characters) (mark 0x22 refl none))
 
-tag_parts : (others : List (List ℕ)) → All IsNextPart others → NoEnd (flat_map (λ part. 0x2D ∷ part) others)
-tag_parts [] h = none
-tag_parts (part ∷ others) h =
-    let this : IsNextPart part = All-head IsNextPart part others h in
-    mark 0x2D refl (joined (class (λ c. is_letter c || is_digit c) refl part this.1) (tag_parts others (All-tail IsNextPart part others h)))
+tag_ends : (tag : List ℕ) → IsTag tag → NoEnd tag
+tag_ends tag is = class (λ c. is_letter c || is_digit c || (c == 0x2D)) refl tag (tag_in_tag tag is)
 
 ending_ends : (ending : List ℕ) → IsEnding ending → NoEnd ending
 ending_ends ending (inl empty) = same empty none
 ending_ends ending (inr (inl typed)) = same typed.spelled (mark 0x5E refl (mark 0x5E refl (iri_ends typed.characters)))
 ending_ends ending (inr (inr tagged)) =
-    same tagged.spelled (mark 0x40 refl (joined (class is_letter refl tagged.first tagged.starts.1) (tag_parts tagged.others tagged.continues)))
+    same tagged.spelled (mark 0x40 refl (tag_ends tagged.tag tagged.is_tag))
 
-label_rest : (rest : List ℕ) → IsLabelRest rest → NoEnd rest
-label_rest rest (inl empty) = same empty none
-label_rest rest (inr (middle, (final, continues))) =
-    same continues.2 (joined (class is_label_character refl middle continues.0) (more final (outside is_name_character refl final continues.1) none))
+label_ends : (label : List ℕ) → IsLabel label → NoEnd label
+label_ends label is = class is_label_character refl label (label_in_label label is)
 
 iri_spelled : (spelling : List ℕ) → IsIri spelling → NoEnd spelling
 iri_spelled spelling iri = same iri.spelled (iri_ends iri.characters)
 
 canonical_ends : (kind : TermKind) (spelling : List ℕ) → IsCanonical kind spelling → NoEnd spelling
 canonical_ends Node spelling (inl iri) = iri_spelled spelling iri
-canonical_ends Node spelling (inr label) =
-    let rest : NoEnd (label.first ∷ label.rest) = more label.first (outside starts_label refl label.first label.starts) (label_rest label.rest label.continues) in
-    same label.spelled (mark 0x5F refl (mark 0x3A refl (all_encoded (label.first ∷ label.rest) rest.all)))
+canonical_ends Node spelling (inr blank) =
+    same blank.spelled (mark 0x5F refl (mark 0x3A refl (all_encoded blank.label (label_ends blank.label blank.is_label).all)))
 canonical_ends Predicate spelling iri = iri_spelled spelling iri
 canonical_ends Value spelling literal = same literal.spelled (joined (string_ends literal.characters) (ending_ends literal.ending literal.ends))
 

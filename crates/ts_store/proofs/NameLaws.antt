@@ -2,7 +2,7 @@
 use Rattle.std.proofs.Common.{◌≡◌, ◌≢◌, ℕ, ◌+◌, ◌<◌, ◌≤◌, List, [], ◌∷◌, ◌++◌, length, get_or, codes, refl, sym, ap, ◌∙◌, arith, length-append}
 use Rattle.std.proofs.lemmas.List.{append_cancel_right}
 use Rattle.ts_model.specs.LayerText.{layer_text}
-use Rattle.ts_nt.proofs.Fronts.{same_fronts}
+use Rattle.ts_model.proofs.Fronts.{same_fronts}
 use Rattle.ts_plain.proofs.HeadLaws.{text_length}
 use Rattle.ts_replace.specs.Names.{IsLayerNumber, layer_name, rollup_name, label_file_name}
 use Rattle.ts_replace.specs.Replaced.{new_tmp}

@@ -1,6 +1,7 @@
-use Rattle.std.proofs.Common.{◌≡◌, ◌∷◌, Some, refl, sym, ap, subst}
+use Rattle.std.proofs.Common.{rules, ◌≡◌, ◌∷◌, refl, sym, subst}
 use Rattle.ts_model.specs.Literal.{IsEnding}
 use Rattle.ts_model.proofs.PieceLaws.{followed, none_is_some, is_empty_text}
+use Rattle.ts_model.proofs.MarkLaws.{language_ending}
 use Rattle.ts_model.proofs.LiteralLaws.{type_alone, tag_alone, nothing_alone}
 use Rattle.ts_model.proofs.canonical_literal.is_ending.Goals as goal
 
@@ -12,8 +13,8 @@ returns-in-Some c =
 
 pub returns-in-Some-after_mark : goal.returns-in-Some-after_mark
 returns-in-Some-after_mark c =
-    let begins : c.args.text.now ≡ 0x40 ∷ c.as_bytes.result.now = (c.in-Some-after_mark.ensures _).1 (ap Some (sym c.as_bytes.ensures.value)) in
-    let both = followed c.is_tag.ensures (tag_alone _) in
+    let begins : c.args.text.now ≡ 0x40 ∷ c.in-Some-after_mark.tag.now = (c.in-Some-after_mark.ensures _).1 refl in
+    let both = followed c.is_tag.ensures (followed (language_ending _ (search rules)) (tag_alone _)) in
     (λ e. subst IsEnding (sym begins) (both.0 e), λ ending. both.1 (subst IsEnding begins ending))
 
 pub returns : goal.returns

@@ -1,6 +1,6 @@
 use Rattle.std.specs.Prelude.{◌≡◌, ℕ, ◌++◌, List, take, chars, encode_utf8_all, slice_range, Result, Ok, Err, IfOk, is_ok, if◌then◌else◌}
 use Rattle.std.proofs.Common.{ap, ◌∙◌, arith}
-use Rattle.ts_nt.proofs.Fronts.{seam, seam_boundary, seam_front}
+use Rattle.ts_nt.proofs.Seams.{seam, seam_boundary, seam_front}
 use Rattle.ts_nt.proofs.marked.append_front.Goals as goal
 
 pub overflow_sub-text : goal.overflow_sub-text

@@ -1,0 +1,11 @@
+use Rattle.std.proofs.Common.{rules}
+use Rattle.ts_model.specs.BlankLabel.{IsLabel}
+use Rattle.ts_model.proofs.MarkLaws.{nothing_left, no_front}
+use Rattle.ts_model.proofs.PieceLaws.{answers_false, followed, is_empty_text}
+use Rattle.ts_model.proofs.canonical_label.is_label.Goals as goal
+
+pub returns-in-Some : goal.returns-in-Some
+returns-in-Some c = followed (is_empty_text _ _ c.is_empty.ensures) (nothing_left IsLabel _ _ (search rules) c.in-Some.ensures)
+
+pub returns-in-None : goal.returns-in-None
+returns-in-None c = answers_false (no_front IsLabel _ c.in-None.ensures)

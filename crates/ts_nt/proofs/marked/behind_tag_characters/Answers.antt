@@ -1,8 +1,0 @@
-use Rattle.ts_nt.proofs.TagFronts.{tag_from_first, no_tag}
-use Rattle.ts_nt.proofs.marked.behind_tag_characters.Goals as goal
-
-pub returns-in_err-others : goal.returns-in_err-others
-returns-in_err-others c = rw c.from_residual.ensures (λ tag rest is. no_tag _ tag rest c.in_err-others.ensures is)
-
-pub returns : goal.returns
-returns c = tag_from_first _ _ _ c.in_ok-others.ensures c.behind_other_parts.ensures
