@@ -1,5 +1,14 @@
-use Rattle.ts_store.proofs.OneHistory.{well_kept}
+use Rattle.ts_store.proofs.OneHistory.{same_history, well_kept, not_damaged, same_damaged}
 use Rattle.ts_store.proofs.law.one_history.Goals as goal
+
+pub returns-clause-once : goal.returns-clause-once
+returns-clause-once c = same_history
 
 pub returns-clause-kept : goal.returns-clause-kept
 returns-clause-kept c = well_kept
+
+pub returns-clause-sound : goal.returns-clause-sound
+returns-clause-sound c = not_damaged
+
+pub returns-clause-first : goal.returns-clause-first
+returns-clause-first c = same_damaged
