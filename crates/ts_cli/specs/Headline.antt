@@ -21,7 +21,7 @@ abbrev pub TellsReplies : Outcome → State → List Command → List ℕ → Li
 TellsReplies outcome state commands old new =
     MatchOption outcome.stop
     ((outcome.done ≡ length commands) × (new ≡ old ++ answers state commands outcome.done) × (outcome.status ≡ (if any_refused state commands then 1 else 0)))
-    (λ stop. (n : ℕ) × (new ≡ old ++ answers state commands outcome.done ++ take n (answer_at state commands outcome.done)))
+    (λ stop. (n : ℕ) × (new ≡ old ++ (answers state commands outcome.done ++ take n (answer_at state commands outcome.done))))
 
 -- the folder stands for the history after the commands that were done; where the disk or the output failed, maybe after one more
 abbrev pub StandsAfterStop : Stop → Folder → State → List Command → ℕ → Type 0
