@@ -1,18 +1,19 @@
 -- How a run ends, by the answer of its step or its stop.
-use Rattle.std.proofs.Common.{◌≡◌, ◌⊎◌, ℕ, List, IsTrue, None, Some, Result, Ok, Err, IfOk, IfErr, OnOk, refl, sym, ◌∙◌, ap, subst, arith, inl, inr}
+use Rattle.std.proofs.Common.{◌≡◌, ◌⊎◌, ℕ, List, IsTrue, None, Some, Result, Ok, Err, IfOk, IfErr, refl, sym, ◌∙◌, ap, subst, arith, inl, inr}
 use Rattle.ts_site.specs.Faults.{Rose, IsCalm}
 use Rattle.ts_model.specs.History.{History}
-use Rattle.ts_site.specs.Folder.{Folder}
 use Rattle.ts_script.specs.declared.command.Command.{Command}
 use Rattle.ts_store.specs.declared.stop.Kind.{Kind}
 use Rattle.ts_store.specs.declared.stop.Stop.{Stop}
 use Rattle.ts_store.specs.declared.stop.Stop.TheVariants.{Usage, Damaged, DiskFault, InputFault, OutputFault, InputLimit, Memory}
 use Rattle.ts_store.specs.FolderSays.{FolderSays}
+use Rattle.ts_store.specs.Stands.{Stands, LeavesHistory}
 use Rattle.ts_store.specs.State.{State}
 use Rattle.ts_store.specs.Step.{step_of}
 use Rattle.ts_store.specs.Stops.{IsStepStop, LeavesFolder, LeavesTold, folder_of, kind_of}
-use Rattle.ts_cli.specs.Ends.{Scene, LeavesAll, DoesStep, Ends, opened}
+use Rattle.ts_cli.specs.Ends.{DoesStep, Ends, opened}
 use Rattle.ts_cli.specs.Outcomes.{IsReadingStop, outcome_of}
+use Rattle.ts_cli.specs.Scene.{Scene, LeavesAll}
 use Rattle.ts_cli.specs.declared.outcome.Outcome.{Outcome}
 
 -- what a step leaves in a session that keeps this state, whose folder after it is told by the state after it
@@ -23,25 +24,22 @@ kind_is : (asked : Command) (answer : Result Kind Stop) (kept kept_new : State) 
 kind_is asked (Ok kind) kept kept_new is = is.1
 kind_is asked (Err stop) kept kept_new is = is
 
-says_next : (asked : Command) (answer : Result Kind Stop) (kept kept_new : State) (folder : Folder) → IfOk answer (Answers asked kept kept_new) → OnOk answer (FolderSays folder kept_new.history)
-    → OnOk answer (FolderSays folder (step_of kept asked).state.history)
-says_next asked (Ok kind) kept kept_new folder is says = subst (λ (state : State). FolderSays folder state.history) is.0 says
-says_next asked (Err stop) kept kept_new folder is says = says
-
 -- the step of a session that was just opened is the step from its history
 does_from : (s : Scene) (asked : Command) (answer : Result Kind Stop) (kept kept_new : State) (history : History) → kept ≡ opened history
     → (IsTrue s.tells_folder → FolderSays s.folder history)
     → IfOk answer (Answers asked kept kept_new)
     → (IsTrue s.tells_output → LeavesTold answer (step_of kept asked).told s.told s.told_after)
     → (IsTrue s.tells_folder → LeavesFolder answer (folder_of s.folder kept asked) s.folder s.folder_after)
-    → (IsTrue s.tells_folder → OnOk answer (FolderSays s.folder_after kept_new.history))
+    → (IsTrue s.tells_folder → LeavesHistory (FolderSays s.folder_after) answer history (step_of kept asked).state.history)
+    → (IsTrue s.tells_folder → Stands s.folder history → LeavesHistory (Stands s.folder_after) answer history (step_of kept asked).state.history)
     → DoesStep s asked answer history
-does_from s asked answer kept kept_new history is says kind told folder after = record {
+does_from s asked answer kept kept_new history is says kind told folder after stands = record {
   says = says;
   kind = subst (λ (state : State). IfOk answer (λ kind. kind ≡ kind_of (step_of state asked).refused)) is (kind_is asked answer kept kept_new kind);
   told = λ t. subst (λ (state : State). LeavesTold answer (step_of state asked).told s.told s.told_after) is (told t);
   folder = λ t. subst (λ (state : State). LeavesFolder answer (folder_of s.folder state asked) s.folder s.folder_after) is (folder t);
-  says_after = λ t. subst (λ (state : State). OnOk answer (FolderSays s.folder_after (step_of state asked).state.history)) is (says_next asked answer kept kept_new s.folder_after kind (after t));
+  says_after = λ t. subst (λ (state : State). LeavesHistory (FolderSays s.folder_after) answer history (step_of state asked).state.history) is (after t);
+  stands_after = λ t standing. subst (λ (state : State). LeavesHistory (Stands s.folder_after) answer history (step_of state asked).state.history) is (stands t standing);
 }
 
 pub does_step : (s : Scene) (asked : Command) (answer : Result Kind Stop) (kept kept_new : State) → kept.last ≡ None
@@ -49,21 +47,22 @@ pub does_step : (s : Scene) (asked : Command) (answer : Result Kind Stop) (kept 
     → IfOk answer (λ kind. (kept_new ≡ (step_of kept asked).state) × (kind ≡ kind_of (step_of kept asked).refused))
     → (IsTrue s.tells_output → LeavesTold answer (step_of kept asked).told s.told s.told_after)
     → (IsTrue s.tells_folder → LeavesFolder answer (folder_of s.folder kept asked) s.folder s.folder_after)
-    → (IsTrue s.tells_folder → OnOk answer (FolderSays s.folder_after kept_new.history))
+    → (IsTrue s.tells_folder → LeavesHistory (FolderSays s.folder_after) answer kept.history (step_of kept asked).state.history)
+    → (IsTrue s.tells_folder → Stands s.folder kept.history → LeavesHistory (Stands s.folder_after) answer kept.history (step_of kept asked).state.history)
     → DoesStep s asked answer kept.history
-does_step s asked answer kept kept_new fresh says kind told folder after =
-    does_from s asked answer kept kept_new kept.history (ap (λ (last : _). record { history = kept.history; last = last }) fresh) says kind told folder after
+does_step s asked answer kept kept_new fresh says kind told folder after stands =
+    does_from s asked answer kept kept_new kept.history (ap (λ (last : _). record { history = kept.history; last = last }) fresh) says kind told folder after stands
 
 -- a step that was answered, or stopped
-pub ends_step : (s : Scene) (asked : Command) (answer : Result Kind Stop) (history : History) → IfErr answer IsStepStop → DoesStep s asked answer history → Ends s (λ other. other ≡ asked) answer
-ends_step s asked (Ok kind) history why does = (asked, refl, history, does)
-ends_step s asked (Err OutputFault) history why does = (asked, refl, history, does)
-ends_step s asked (Err DiskFault) history why does = inr (asked, refl, history, does)
-ends_step s asked (Err Memory) history why does = inr (asked, refl, history, does)
-ends_step s asked (Err Usage) history why does = absurd why
-ends_step s asked (Err (Damaged name)) history why does = absurd why
-ends_step s asked (Err InputFault) history why does = absurd why
-ends_step s asked (Err InputLimit) history why does = absurd why
+pub ends_step : (s : Scene) (asked : Command) (answer : Result Kind Stop) (kept : State) (history : History) → IfErr answer (IsStepStop kept asked) → DoesStep s asked answer history → Ends s (λ other. other ≡ asked) answer
+ends_step s asked (Ok kind) kept history why does = (asked, refl, history, does)
+ends_step s asked (Err OutputFault) kept history why does = (asked, refl, history, does)
+ends_step s asked (Err DiskFault) kept history why does = inr (asked, refl, history, does)
+ends_step s asked (Err Memory) kept history why does = inr (asked, refl, history, does)
+ends_step s asked (Err Usage) kept history why does = absurd why
+ends_step s asked (Err (Damaged name)) kept history why does = absurd why
+ends_step s asked (Err InputFault) kept history why does = absurd why
+ends_step s asked (Err InputLimit) kept history why does = absurd why
 
 -- a stop before the folder was opened
 pub ends_reading : (s : Scene) (Asked : Command → Type 0) (stop : Stop) → (stop ≡ Memory) ⊎ IsReadingStop stop → LeavesAll s → Ends s Asked (Err stop)

@@ -3,7 +3,7 @@ use Rattle.std.proofs.Common.{◌≡◌, ℕ, ◌^◌, List, ◌++◌, length, d
 use Rattle.std.proofs.Math.Seq.{drop-append_seam}
 use Rattle.ts_script.specs.Cutting.{Took, IsFresh}
 use Rattle.ts_script.specs.declared.cutter.LineCutter.{LineCutter}
-use Rattle.ts_cli.specs.Outcomes.{IsOverLimit}
+use Rattle.ts_cli.specs.Causes.{IsOverLimit}
 
 -- where the limit stopped the reading, so many bytes were taken
 pub over_limit : (old new : LineCutter) (bytes left rest : List ℕ) → IsFresh old (2 ^ 40) → Took old new bytes → new.taken ≡ new.limit → left ≡ bytes ++ rest → IsOverLimit left rest

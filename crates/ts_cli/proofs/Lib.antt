@@ -1,2 +1,4 @@
-pub mod EndsLemmas
-pub mod InputLemmas
+mod CauseLaws
+mod EndsLemmas
+mod HeadlineLaws
+mod InputLemmas

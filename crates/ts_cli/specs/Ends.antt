@@ -1,7 +1,6 @@
 -- What a run leaves of the folder and the output.
-use Rattle.std.specs.Prelude.{◌≡◌, ◌⊎◌, ℕ, List, Bool, false, IsTrue, None, Result, Ok, Err, IfOk, OnOk}
+use Rattle.std.specs.Prelude.{◌≡◌, ◌⊎◌, ℕ, List, Bool, false, IsTrue, None, Result, Ok, Err, IfOk}
 use Rattle.ts_model.specs.History.{History}
-use Rattle.ts_site.specs.Folder.{Folder}
 use Rattle.ts_script.specs.Lines.{lines_of}
 use Rattle.ts_script.specs.Words.{are_base, AsksFor, IsCommand}
 use Rattle.ts_script.specs.declared.command.Command.{Command}
@@ -9,27 +8,15 @@ use Rattle.ts_store.specs.declared.stop.Kind.{Kind}
 use Rattle.ts_store.specs.declared.stop.Stop.{Stop}
 use Rattle.ts_store.specs.declared.stop.Stop.TheVariants.{Usage, Damaged, DiskFault, InputFault, OutputFault, InputLimit, Memory}
 use Rattle.ts_store.specs.FolderSays.{FolderSays}
+use Rattle.ts_store.specs.Stands.{Stands, LeavesHistory}
 use Rattle.ts_store.specs.State.{State}
 use Rattle.ts_store.specs.Step.{Stepped, step_of}
 use Rattle.ts_store.specs.Stops.{LeavesFolder, LeavesTold, folder_of, kind_of}
+use Rattle.ts_cli.specs.Scene.{Scene, LeavesAll}
 
 -- The words ask for this command; where it has a body and the input is told, the lines of the input are that body.
 abbrev pub Asks : List (List ℕ) → Bool → List ℕ → Command → Type 0
 Asks words tells left asked = (are_base words ≡ false → AsksFor words asked) × (IsTrue tells → IsCommand words 0 (lines_of left) asked)
-
--- the folder and the output before and after a run, and whether they are told
-pub record Scene : Type 0 where
-  pub tells_folder : Bool
-  pub folder : Folder
-  pub folder_after : Folder
-  pub tells_output : Bool
-  pub told : List ℕ
-  pub told_after : List ℕ
-
--- nothing was changed, and nothing was said
-pub record LeavesAll (s : Scene) : Type 0 where
-  pub folder : IsTrue s.tells_folder → s.folder_after ≡ s.folder
-  pub told : s.told_after ≡ s.told
 
 -- a store with this history, in which this run has made no layer yet
 abbrev pub opened : History → State
@@ -39,14 +26,15 @@ abbrev pub step_from : History → Command → Stepped
 step_from history asked = step_of (opened history) asked
 
 -- The folder tells the history, and the step of the command from it was answered so: the answer is that of the step, its reply was said
--- whole, and the folder is the one after it and tells the history after it. What a stop leaves of the reply and the folder is said
--- by the same tables.
+-- whole, and the folder is the one after it and tells, or stands for, the history after it. What a stop leaves of the reply, the
+-- folder and the history is said by the same tables.
 pub record DoesStep (s : Scene) (asked : Command) (answer : Result Kind Stop) (history : History) : Type 0 where
   pub says : IsTrue s.tells_folder → FolderSays s.folder history
   pub kind : IfOk answer (λ kind. kind ≡ kind_of (step_from history asked).refused)
   pub told : IsTrue s.tells_output → LeavesTold answer (step_from history asked).told s.told s.told_after
   pub folder : IsTrue s.tells_folder → LeavesFolder answer (folder_of s.folder (opened history) asked) s.folder s.folder_after
-  pub says_after : IsTrue s.tells_folder → OnOk answer (FolderSays s.folder_after (step_from history asked).state.history)
+  pub says_after : IsTrue s.tells_folder → LeavesHistory (FolderSays s.folder_after) answer history (step_from history asked).state.history
+  pub stands_after : IsTrue s.tells_folder → Stands s.folder history → LeavesHistory (Stands s.folder_after) answer history (step_from history asked).state.history
 
 -- a command that is asked for came to its step
 abbrev pub ComesToStep : Scene → (Command → Type 0) → Result Kind Stop → Type 0

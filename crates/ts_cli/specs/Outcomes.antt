@@ -1,6 +1,5 @@
 -- The outcome of a run, and what each stop tells.
-use Rattle.std.specs.Prelude.{◌≡◌, ℕ, ◌^◌, ◌≤◌, List, drop, length, Option, None, Some, MatchOption, Result, Ok, Err}
-use Rattle.ts_site.specs.Faults.{Rose}
+use Rattle.std.specs.Prelude.{◌≡◌, ℕ, ◌≤◌, Option, None, Some, MatchOption, Result, Ok, Err}
 use Rattle.ts_store.specs.declared.stop.Kind.{Kind}
 use Rattle.ts_store.specs.declared.stop.Kind.TheVariants.{Done, Refused}
 use Rattle.ts_store.specs.declared.stop.Stop.{Stop}
@@ -39,10 +38,6 @@ abbrev pub HasStatus : Outcome → Type 0
 HasStatus outcome =
     MatchOption outcome.stop ((outcome.status ≤ 1) × (outcome.done ≡ 1)) (λ stop. (outcome.status ≡ stop_status stop) × (outcome.done ≡ 0))
 
--- the stop is this fault exactly where the count rose
-abbrev pub Causes : Stop → Option Stop → ℕ → ℕ → Type 0
-Causes fault stop old new = (stop ≡ Some fault → Rose old new) × ((stop ≡ Some fault → ⊥) → new ≡ old)
-
 -- the stops that come before the folder is opened
 abbrev pub IsReadingStop : Stop → Type 0
 IsReadingStop Usage = Unit {0}
@@ -63,7 +58,3 @@ IsAfterReading (Some Usage) = ⊥
 IsAfterReading (Some InputFault) = ⊥
 IsAfterReading (Some InputLimit) = ⊥
 IsAfterReading (Some Memory) = ⊥
-
--- 2^40 bytes were taken
-abbrev pub IsOverLimit : List ℕ → List ℕ → Type 0
-IsOverLimit left left_after = (2 ^ 40 ≤ length left) × (left_after ≡ drop (2 ^ 40) left)

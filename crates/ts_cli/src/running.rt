@@ -1,10 +1,15 @@
 // One run: words, input and folder to an outcome.
-ghost use Rattle.std.specs.Prelude.{◌≡◌, ◌⊎◌, ◌≤◌, ◌<◌, ◌^◌, ℕ, List, [], IsTrue, IfOk, IfErr, OnOk, Result, length, map, string_bytes, true, false, None, Some, Err};
+ghost use Rattle.std.specs.Prelude.{◌≡◌, ◌⊎◌, ◌<◌, ◌^◌, ℕ, List, [], IsTrue, IfOk, IfErr, OnOk, Result, length, map, string_bytes, true, false, None, Some, Err};
+ghost use Rattle.ts_model.specs.History.{History};
 ghost use Rattle.ts_site.specs.Faults.{IsCalm};
 ghost use Rattle.ts_script.specs.Words.{are_base, IsNoCommand};
 ghost use Rattle.ts_store.specs.FolderSays.{IsFirstDamaged};
-ghost use Rattle.ts_cli.specs.Ends.{Asks, Ends};
-ghost use Rattle.ts_cli.specs.Outcomes.{Causes, HasStatus, IsAfterReading, IsOverLimit, IsReadingStop, outcome_of, stop_of};
+ghost use Rattle.ts_store.specs.Stands.{Stands};
+ghost use Rattle.ts_cli.specs.Causes.{Causes, DamagedCause, IsOverLimit, LimitCause, UsageCause};
+ghost use Rattle.ts_cli.specs.Ends.{Asks, Ends, opened};
+ghost use Rattle.ts_cli.specs.Headline.{AreCommands, StandsAfter, TellsReplies};
+ghost use Rattle.ts_cli.specs.Outcomes.{HasStatus, IsAfterReading, IsReadingStop, outcome_of, stop_of};
+ghost use Rattle.ts_cli.specs.Scene.{scene_of};
 
 use crate::outcome::answered;
 use crate::{Outcome, Stop, stopped};
@@ -27,6 +32,7 @@ fn read_command<S: Source>(alloc: Global, words: &[String], input: &mut S) -> Re
     ensures limit { IsTrue (S.tells input.old) → IfErr result (λ stop. stop ≡ Stop.InputLimit → IsOverLimit (S.left input.old) (S.left input.new)) }
     ensures why { IfErr result (λ stop. (stop ≡ Stop.Memory) ⊎ IsReadingStop stop) }
     ensures counts { Causes Stop.InputFault (stop_of result) (S.faults input.old) (S.faults input.new) }
+    ensures tells { S.tells input.new ≡ S.tells input.old }
 {
     let Ok(mut cutter) = LineCutter::new(alloc, INPUT_LIMIT) else {
         return Err(Stop::Memory);
@@ -42,16 +48,10 @@ fn read_command<S: Source>(alloc: Global, words: &[String], input: &mut S) -> Re
 
 /// Opens the folder, and does the step of a command.
 fn step<W: Site>(alloc: Global, site: &mut W, command: &Command) -> Result<Kind, Stop>
-    ensures ends { Ends (record {
-      tells_folder = W.tells_folder site.old;
-      folder = W.now site.old;
-      folder_after = W.now site.new;
-      tells_output = W.tells_output site.old;
-      told = W.told site.old;
-      told_after = W.told site.new;
-    }) (λ asked. asked ≡ command.now) result }
+    ensures ends { Ends (scene_of W.tells_folder W.now W.tells_output W.told site.old site.new) (λ asked. asked ≡ command.now) result }
     ensures damaged { IsTrue (W.tells_folder site.old) → IfErr result (λ stop. (name : List ℕ) → stop ≡ Stop.Damaged name → IsFirstDamaged (W.now site.old) name) }
     ensures why { IfErr result (λ stop. IsReadingStop stop → ⊥) }
+    ensures tells { (W.tells_folder site.new ≡ W.tells_folder site.old) × (W.tells_output site.new ≡ W.tells_output site.old) }
     ensures disk { Causes Stop.DiskFault (stop_of result) (W.disk_faults site.old) (W.disk_faults site.new) }
     ensures output { Causes Stop.OutputFault (stop_of result) (W.say_faults site.old) (W.say_faults site.new) }
 {
@@ -66,44 +66,42 @@ pub fn run<W: Site, S: Source>(
     site: &mut W,
     input: &mut S,
 ) -> Outcome
-    // Words that are no command are answered so, and touch neither the folder nor the input.
-    ensures usage { result.stop ≡ Some Stop.Usage → IsNoCommand (map string_bytes words.now) }
-    ensures no_command { IsNoCommand (map string_bytes words.now) → (result.stop ≡ Some Stop.Usage) ⊎ (result.stop ≡ Some Stop.Memory) }
-    ensures untouched { IsNoCommand (map string_bytes words.now) → (site.new ≡ site.old) × (input.new ≡ input.old) }
-    ensures status { HasStatus result }
+    // On a folder that stands for a history, what is told is the replies to the commands that words and input ask for, and the
+    // folder stands for the history after them.
+    ensures replies { (history : History) (commands : List Command) → IsTrue (W.tells_folder site.old) → Stands (W.now site.old) history
+        → IsTrue (S.tells input.old) → AreCommands (map string_bytes words.now) (S.left input.old) commands
+        → IsTrue (W.tells_output site.old) → TellsReplies result (opened history) commands (W.told site.old) (W.told site.new) }
+    ensures folder { (history : History) (commands : List Command) → IsTrue (W.tells_folder site.old) → Stands (W.now site.old) history
+        → IsTrue (S.tells input.old) → AreCommands (map string_bytes words.now) (S.left input.old) commands
+        → StandsAfter result (opened history) commands (W.now site.new) }
 
-    // The command is read before the folder is opened. Only `base` reads the input, to its end.
-    ensures read_first { (stop : Stop) → result.stop ≡ Some stop → IsReadingStop stop → site.new ≡ site.old }
-    ensures read_all { IsTrue (S.tells input.old) → are_base (map string_bytes words.now) ≡ true → IsAfterReading result.stop → S.left input.new ≡ [] }
-    ensures unread { are_base (map string_bytes words.now) ≡ false → input.new ≡ input.old }
+    // Each stop but want of memory comes exactly for its cause.
+    ensures causes { UsageCause (map string_bytes words.now) result.stop
+        × Causes Stop.DiskFault result.stop (W.disk_faults site.old) (W.disk_faults site.new)
+        × Causes Stop.OutputFault result.stop (W.say_faults site.old) (W.say_faults site.new)
+        × Causes Stop.InputFault result.stop (S.faults input.old) (S.faults input.new)
+        × (IsTrue (W.tells_folder site.old) → DamagedCause (W.now site.old) result.stop)
+        × (IsTrue (S.tells input.old) → LimitCause (are_base (map string_bytes words.now)) (S.left input.old) (S.left input.new) result.stop) }
 
-    // Each fault exactly where its count rose.
-    ensures disk { Causes Stop.DiskFault result.stop (W.disk_faults site.old) (W.disk_faults site.new) }
-    ensures output { Causes Stop.OutputFault result.stop (W.say_faults site.old) (W.say_faults site.new) }
-    ensures input { Causes Stop.InputFault result.stop (S.faults input.old) (S.faults input.new) }
-
-    // A damaged file is the first one of the folder.
-    ensures damaged { IsTrue (W.tells_folder site.old) → (name : List ℕ) → result.stop ≡ Some (Stop.Damaged name) → IsFirstDamaged (W.now site.old) name }
-
-    // The outcome is that of an answer, which is the stated step's, and what it leaves is what that step leaves.
-    ensures ends { (answer : Result Kind Stop) × (result ≡ outcome_of answer) × Ends (record {
-      tells_folder = W.tells_folder site.old;
-      folder = W.now site.old;
-      folder_after = W.now site.new;
-      tells_output = W.tells_output site.old;
-      told = W.told site.old;
-      told_after = W.told site.new;
-    }) (Asks (map string_bytes words.now) (S.tells input.old) (S.left input.old)) answer }
-
-    // It doesn't give up but for memory.
+    // Where nothing fails, there is no stop but want of memory.
     ensures complete { (IsNoCommand (map string_bytes words.now) → ⊥) → IsTrue (S.tells input.old) → length (S.left input.old) < 2 ^ 40
         → IsTrue (W.tells_folder site.old) → ((name : List ℕ) → IsFirstDamaged (W.now site.old) name → ⊥)
         → IsCalm (W.disk_faults site.old) (W.disk_faults site.new) → IsCalm (W.say_faults site.old) (W.say_faults site.new)
         → IsCalm (S.faults input.old) (S.faults input.new) → (result.stop ≡ None) ⊎ (result.stop ≡ Some Stop.Memory) }
 
-    // An input over the limit never comes to the folder, and one that is answered so is over it.
-    ensures over { IsTrue (S.tells input.old) → are_base (map string_bytes words.now) ≡ true → 2 ^ 40 ≤ length (S.left input.old) → IsAfterReading result.stop → ⊥ }
-    ensures limit { IsTrue (S.tells input.old) → result.stop ≡ Some Stop.InputLimit → IsOverLimit (S.left input.old) (S.left input.new) }
+    // The status is that of the answer or the stop. On every folder and input, told or not, the run came to its step or left all
+    // as it was.
+    ensures status { HasStatus result }
+    ensures ends { (answer : Result Kind Stop) × (result ≡ outcome_of answer)
+        × Ends (scene_of W.tells_folder W.now W.tells_output W.told site.old site.new) (Asks (map string_bytes words.now) (S.tells input.old) (S.left input.old)) answer }
+
+    // Words that are no command touch nothing. The command is read before the folder is opened. Only `base` reads the input, to its
+    // end.
+    ensures untouched { IsNoCommand (map string_bytes words.now) → (site.new ≡ site.old) × (input.new ≡ input.old) }
+    ensures read_first { (stop : Stop) → result.stop ≡ Some stop → IsReadingStop stop → site.new ≡ site.old }
+    ensures read_all { IsTrue (S.tells input.old) → are_base (map string_bytes words.now) ≡ true → IsAfterReading result.stop → S.left input.new ≡ [] }
+    ensures unread { are_base (map string_bytes words.now) ≡ false → input.new ≡ input.old }
+    ensures tells { (W.tells_folder site.new ≡ W.tells_folder site.old) × (W.tells_output site.new ≡ W.tells_output site.old) × (S.tells input.new ≡ S.tells input.old) }
 {
     match read_command(alloc, words, input) {
         Err(stop) => stopped(stop),

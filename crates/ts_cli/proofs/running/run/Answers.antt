@@ -1,17 +1,62 @@
-use Rattle.std.proofs.Common.{◌≡◌, refl, ap, ◌∙◌, Some, Ok, Err, inr}
+use Rattle.std.proofs.Common.{◌≡◌, List, ℕ, map, string_bytes, IsTrue, Result, refl, sym, ap, ◌∙◌, subst, Some, Ok, Err, inr, true≢false}
+use Rattle.ts_store.specs.declared.stop.Kind.{Kind}
+use Rattle.ts_store.specs.declared.stop.Stop.{Stop}
+use Rattle.ts_cli.specs.Ends.{Asks, Ends}
+use Rattle.ts_cli.specs.Scene.{Scene, scene_of}
 use Rattle.ts_cli.proofs.EndsLemmas.{calm_rose, ends_asked, ends_reading, only_memory, same_stop, stop_is}
+use Rattle.ts_store.specs.declared.stop.Stop.TheVariants.{Damaged, DiskFault, OutputFault}
+use Rattle.ts_cli.specs.Outcomes.{IsReadingStop, stop_of}
+use Rattle.ts_cli.proofs.CauseLaws.{fault_is, input_read, limit_read, read_no_stop, some_is, usage_read}
+use Rattle.ts_cli.proofs.HeadlineLaws.{headline_replies, headline_folder, damaged_cause}
 use Rattle.ts_cli.proofs.running.run.Goals as goal
 
 pub returns-in-Err-clause-ends : goal.returns-in-Err-clause-ends
 returns-in-Err-clause-ends g c =
     (Err c.in-Err.stop, c.stopped.ensures, ends_reading _ _ c.in-Err.stop c.in-Err.ensures.why (record { folder = λ _. refl; told = refl }))
 
-pub returns-in-Err-step-clause-damaged : goal.returns-in-Err-step-clause-damaged
-returns-in-Err-step-clause-damaged g c = λ told name is. c.in-Err-step.ensures.damaged told name (same_stop c.stopped-in-Err-step.result c.in-Err-step.stop _ c.stopped-in-Err-step.ensures is)
-
 pub returns-in-Err-step-clause-ends : goal.returns-in-Err-step-clause-ends
 returns-in-Err-step-clause-ends g c =
     (Err c.in-Err-step.stop, c.stopped-in-Err-step.ensures, ends_asked _ (λ asked. asked ≡ c.in-Ok.command) _ (Err c.in-Err-step.stop) (λ asked is. rw is c.in-Ok.ensures.asks) c.in-Err-step.ensures.ends)
+
+pub returns-in-Err-step-clause-replies : goal.returns-in-Err-step-clause-replies
+returns-in-Err-step-clause-replies g c = λ history commands told stands tells are output.
+    let words = map string_bytes c.args.words.now in
+    let tells_input = g.S.Source.tells c.args.input.now in
+    let left = g.S.Source.left c.args.input.now in
+    let s : Scene = scene_of g.W.Disk.tells_folder g.W.Disk.now g.W.Disk.tells_output g.W.Disk.told c.args.site.now c.step.new.site in
+    let answer : Result Kind Stop = Err c.in-Err-step.stop in
+    let ends : Ends s (Asks words tells_input left) answer = ends_asked s (λ asked. asked ≡ c.in-Ok.command) (Asks words tells_input left) answer (λ asked is. rw is c.in-Ok.ensures.asks) c.in-Err-step.ensures.ends in
+    headline_replies s told words tells_input tells left history stands commands are c.stopped-in-Err-step.result answer c.stopped-in-Err-step.ensures ends output
+
+pub returns-in-Err-step-clause-folder : goal.returns-in-Err-step-clause-folder
+returns-in-Err-step-clause-folder g c = λ history commands told stands tells are.
+    let words = map string_bytes c.args.words.now in
+    let tells_input = g.S.Source.tells c.args.input.now in
+    let left = g.S.Source.left c.args.input.now in
+    let s : Scene = scene_of g.W.Disk.tells_folder g.W.Disk.now g.W.Disk.tells_output g.W.Disk.told c.args.site.now c.step.new.site in
+    let answer : Result Kind Stop = Err c.in-Err-step.stop in
+    let ends : Ends s (Asks words tells_input left) answer = ends_asked s (λ asked. asked ≡ c.in-Ok.command) (Asks words tells_input left) answer (λ asked is. rw is c.in-Ok.ensures.asks) c.in-Err-step.ensures.ends in
+    headline_folder s told words tells_input tells left history stands commands are c.stopped-in-Err-step.result answer c.stopped-in-Err-step.ensures ends
+
+pub returns-clause-replies : goal.returns-clause-replies
+returns-clause-replies g c = λ history commands told stands tells are output.
+    let words = map string_bytes c.args.words.now in
+    let tells_input = g.S.Source.tells c.args.input.now in
+    let left = g.S.Source.left c.args.input.now in
+    let s : Scene = scene_of g.W.Disk.tells_folder g.W.Disk.now g.W.Disk.tells_output g.W.Disk.told c.args.site.now c.step.new.site in
+    let answer : Result Kind Stop = Ok c.in-Ok-step.kind in
+    let ends : Ends s (Asks words tells_input left) answer = ends_asked s (λ asked. asked ≡ c.in-Ok.command) (Asks words tells_input left) answer (λ asked is. rw is c.in-Ok.ensures.asks) c.in-Ok-step.ensures.ends in
+    headline_replies s told words tells_input tells left history stands commands are c.answered.result answer c.answered.ensures ends output
+
+pub returns-clause-folder : goal.returns-clause-folder
+returns-clause-folder g c = λ history commands told stands tells are.
+    let words = map string_bytes c.args.words.now in
+    let tells_input = g.S.Source.tells c.args.input.now in
+    let left = g.S.Source.left c.args.input.now in
+    let s : Scene = scene_of g.W.Disk.tells_folder g.W.Disk.now g.W.Disk.tells_output g.W.Disk.told c.args.site.now c.step.new.site in
+    let answer : Result Kind Stop = Ok c.in-Ok-step.kind in
+    let ends : Ends s (Asks words tells_input left) answer = ends_asked s (λ asked. asked ≡ c.in-Ok.command) (Asks words tells_input left) answer (λ asked is. rw is c.in-Ok.ensures.asks) c.in-Ok-step.ensures.ends in
+    headline_folder s told words tells_input tells left history stands commands are c.answered.result answer c.answered.ensures ends
 
 pub returns-in-Err-step-clause-complete : goal.returns-in-Err-step-clause-complete
 returns-in-Err-step-clause-complete g c = λ command told short tells sound disk output input.
@@ -23,3 +68,41 @@ returns-in-Err-step-clause-complete g c = λ command told short tells sound disk
 pub returns-clause-ends : goal.returns-clause-ends
 returns-clause-ends g c =
     (Ok c.in-Ok-step.kind, c.answered.ensures, ends_asked _ (λ asked. asked ≡ c.in-Ok.command) _ (Ok c.in-Ok-step.kind) (λ asked is. rw is c.in-Ok.ensures.asks) c.in-Ok-step.ensures.ends)
+
+pub returns-in-Err-step-clause-causes : goal.returns-in-Err-step-clause-causes
+returns-in-Err-step-clause-causes g c =
+    let words = map string_bytes c.args.words.now in
+    let tells_input = g.S.Source.tells c.args.input.now in
+    let left = g.S.Source.left c.args.input.now in
+    let s : Scene = scene_of g.W.Disk.tells_folder g.W.Disk.now g.W.Disk.tells_output g.W.Disk.told c.args.site.now c.step.new.site in
+    let answer : Result Kind Stop = Err c.in-Err-step.stop in
+    let outcome = c.stopped-in-Err-step.result in
+    let is = c.stopped-in-Err-step.ensures in
+    let ends : Ends s (Asks words tells_input left) answer = ends_asked s (λ asked. asked ≡ c.in-Ok.command) (Asks words tells_input left) answer (λ asked is. rw is c.in-Ok.ensures.asks) c.in-Err-step.ensures.ends in
+    let later : (stop : Stop) → stop_of answer ≡ Some stop → IsReadingStop stop → ⊥ = λ stop same reading. c.in-Err-step.ensures.why (subst IsReadingStop (some_is stop c.in-Err-step.stop (sym same)) reading) in (
+      usage_read outcome answer is later words (λ none. read_no_stop c.in-Ok.command (c.in-Ok.ensures.no_command none)),
+      fault_is outcome answer is later DiskFault _ _ c.in-Err-step.ensures.disk,
+      fault_is outcome answer is later OutputFault _ _ c.in-Err-step.ensures.output,
+      input_read outcome answer is later _ _ (c.in-Ok.ensures.counts.1 (λ none. cc)),
+      λ told. damaged_cause s told (Asks words tells_input left) outcome answer is ends (λ other same. c.in-Err-step.ensures.damaged told other (some_is c.in-Err-step.stop (Damaged other) same)),
+      λ told. limit_read outcome answer is later _ left _ (c.in-Ok.ensures.short told),
+    )
+
+pub returns-clause-causes : goal.returns-clause-causes
+returns-clause-causes g c =
+    let words = map string_bytes c.args.words.now in
+    let tells_input = g.S.Source.tells c.args.input.now in
+    let left = g.S.Source.left c.args.input.now in
+    let s : Scene = scene_of g.W.Disk.tells_folder g.W.Disk.now g.W.Disk.tells_output g.W.Disk.told c.args.site.now c.step.new.site in
+    let answer : Result Kind Stop = Ok c.in-Ok-step.kind in
+    let outcome = c.answered.result in
+    let is = c.answered.ensures in
+    let ends : Ends s (Asks words tells_input left) answer = ends_asked s (λ asked. asked ≡ c.in-Ok.command) (Asks words tells_input left) answer (λ asked is. rw is c.in-Ok.ensures.asks) c.in-Ok-step.ensures.ends in
+    let later : (stop : Stop) → stop_of answer ≡ Some stop → IsReadingStop stop → ⊥ = λ stop same reading. cc in (
+      usage_read outcome answer is later words (λ none. read_no_stop c.in-Ok.command (c.in-Ok.ensures.no_command none)),
+      fault_is outcome answer is later DiskFault _ _ c.in-Ok-step.ensures.disk,
+      fault_is outcome answer is later OutputFault _ _ c.in-Ok-step.ensures.output,
+      input_read outcome answer is later _ _ (c.in-Ok.ensures.counts.1 (λ none. cc)),
+      λ told. damaged_cause s told (Asks words tells_input left) outcome answer is ends (λ other same. cc),
+      λ told. limit_read outcome answer is later _ left _ (c.in-Ok.ensures.short told),
+    )

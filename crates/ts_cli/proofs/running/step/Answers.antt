@@ -4,7 +4,8 @@ use Rattle.ts_store.specs.Kept.{state_kept}
 use Rattle.ts_store.specs.Step.{step_of}
 use Rattle.ts_store.specs.Stops.{LeavesFolder, LeavesTold, folder_of}
 use Rattle.ts_store.specs.FolderSays.{FolderSays}
-use Rattle.ts_cli.specs.Ends.{Scene}
+use Rattle.ts_store.specs.Stands.{Stands}
+use Rattle.ts_cli.specs.Scene.{Scene, scene_of}
 use Rattle.ts_cli.proofs.EndsLemmas.{does_step, ends_step}
 use Rattle.ts_cli.proofs.running.step.Goals as goal
 
@@ -16,15 +17,8 @@ returns-clause-ends g c =
     let asked = c.args.command.now in
     let kept = state_kept session in
     let new = c.step.new.site in
-    let s : Scene = record {
-      tells_folder = g.W.Disk.tells_folder c.args.site.now;
-      folder = g.W.Disk.now c.args.site.now;
-      folder_after = g.W.Disk.now new;
-      tells_output = g.W.Disk.tells_output c.args.site.now;
-      told = g.W.Disk.told c.args.site.now;
-      told_after = g.W.Disk.told new;
-    } in
-    ends_step s asked c.step.result kept.history (c.step.ensures.why fresh)
+    let s : Scene = scene_of g.W.Disk.tells_folder g.W.Disk.now g.W.Disk.tells_output g.W.Disk.told c.args.site.now new in
+    ends_step s asked c.step.result kept kept.history (c.step.ensures.why fresh)
     (does_step s asked c.step.result kept (state_kept c.step.new.self) opening.fresh.0
     (λ t. (opening.folder.1 t).1)
     (c.step.ensures.state fresh)
@@ -32,4 +26,5 @@ returns-clause-ends g c =
     ((c.step.ensures.told fresh).1 (rw opening.output.same_telling t)))
     (λ t. subst (λ (folder : Folder). LeavesFolder c.step.result (folder_of folder kept asked) folder (g.W.Disk.now new)) (opening.folder.1 t).0
     ((c.step.ensures.folder fresh).1 (rw opening.folder.0 t)))
-    (λ t. c.step.ensures.says fresh (rw opening.folder.0 t) (subst (λ (folder : Folder). FolderSays folder kept.history) (sym (opening.folder.1 t).0) (opening.folder.1 t).1)))
+    (λ t. c.step.ensures.says fresh (rw opening.folder.0 t) (subst (λ (folder : Folder). FolderSays folder kept.history) (sym (opening.folder.1 t).0) (opening.folder.1 t).1))
+    (λ t standing. c.step.ensures.stands fresh (rw opening.folder.0 t) (subst (λ (folder : Folder). Stands folder kept.history) (sym (opening.folder.1 t).0) standing)))

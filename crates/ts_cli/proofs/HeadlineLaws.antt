@@ -1,0 +1,123 @@
+-- The headline from how a run ends: a folder tells one history, and words and lines are one command.
+use Rattle.std.proofs.Common.{◌≡◌, ◌⊎◌, ℕ, ◌+◌, Bool, true, false, ◌||◌, cond, List, [], ◌∷◌, ◌++◌, length, take, IsTrue, Option, None, Some, Result, Ok, Err, inl, inr, refl, sym, ap, ◌∙◌, subst, append-nil}
+use Rattle.ts_model.specs.History.{History}
+use Rattle.ts_script.specs.Lines.{lines_of}
+use Rattle.ts_script.specs.Words.{IsCommand}
+use Rattle.ts_script.specs.declared.command.Command.{Command}
+use Rattle.ts_script.proofs.CommandLaws.{same_command}
+use Rattle.ts_store.specs.declared.stop.Kind.{Kind}
+use Rattle.ts_store.specs.declared.stop.Kind.TheVariants.{Done, Refused}
+use Rattle.ts_store.specs.declared.stop.Stop.{Stop}
+use Rattle.ts_store.specs.declared.stop.Stop.TheVariants.{Usage, Damaged, DiskFault, InputFault, OutputFault, InputLimit, Memory}
+use Rattle.ts_store.specs.FolderSays.{FolderSays, IsFirstDamaged}
+use Rattle.ts_store.specs.Stands.{Stands}
+use Rattle.ts_store.specs.State.{State}
+use Rattle.ts_store.specs.Steps.{after, answers, answer_at, any_refused}
+use Rattle.ts_store.specs.Stops.{kind_of}
+use Rattle.ts_store.proofs.OneHistory.{same_history, not_damaged, same_damaged}
+use Rattle.ts_cli.specs.Causes.{DamagedCause, IsBeforeOpening}
+use Rattle.ts_cli.specs.Ends.{Asks, ComesToStep, DoesStep, Ends, opened, step_from}
+use Rattle.ts_cli.specs.Headline.{AreCommands, TellsReplies, StandsAfter}
+use Rattle.ts_cli.specs.Outcomes.{outcome_of, status_of, stop_of}
+use Rattle.ts_cli.specs.declared.outcome.Outcome.{Outcome}
+use Rattle.ts_cli.specs.Scene.{Scene, LeavesAll}
+
+or_false : (b : Bool) → (b || false) ≡ b
+or_false true = refl
+or_false false = refl
+
+status_is : (kind : Kind) (refused : Bool) → kind ≡ kind_of refused → status_of (Ok kind) ≡ cond (refused || false) 1 0
+status_is kind true is = ap (λ (k : Kind). status_of (Ok k)) is
+status_is kind false is = ap (λ (k : Kind). status_of (Ok k)) is
+
+module _ (s : Scene) (told_folder : IsTrue s.tells_folder) (words : List (List ℕ)) (tells : Bool) (told_input : IsTrue tells) (input : List ℕ) (answer : Result Kind Stop) (history : History) (stands : Stands s.folder history) (wanted : Command) (is : IsCommand words 0 (lines_of input) wanted) where
+  abbrev Asked : Command → Type 0
+  Asked = Asks words tells input
+
+  -- the step that it came to is that of the command from the history
+  the_step : ComesToStep s Asked answer → DoesStep s wanted answer history
+  the_step (asked, asks, other, does) =
+      subst (λ h. DoesStep s wanted answer h) (same_history s.folder other history (does.says told_folder) stands.says)
+      (subst (λ c. DoesStep s c answer other) (same_command words 0 (lines_of input) asked wanted (asks.1 told_input) is) does)
+
+module _ (s : Scene) (told_folder : IsTrue s.tells_folder) (words : List (List ℕ)) (tells : Bool) (told_input : IsTrue tells) (input : List ℕ) (history : History) (stands : Stands s.folder history) (wanted : Command) (is : IsCommand words 0 (lines_of input) wanted) where
+  abbrev Tells : Result Kind Stop → Type 0
+  Tells answer = TellsReplies (outcome_of answer) (opened history) (wanted ∷ []) s.told s.told_after
+
+  nothing_told : (stop : Stop) → LeavesAll s → Tells (Err stop)
+  nothing_told stop all = (0, all.told ∙ sym (append-nil s.told))
+
+  module _ (told_output : IsTrue s.tells_output) where
+    step_told : (answer : Result Kind Stop) → DoesStep s wanted answer history → Tells answer
+    step_told (Ok kind) does =
+        (refl, does.told told_output ∙ ap (λ l. s.told ++ l) (sym (append-nil (step_from history wanted).told)), status_is kind (step_from history wanted).refused does.kind)
+    step_told (Err OutputFault) does = does.told told_output
+    step_told (Err Memory) does = let told = does.told told_output in (told.0, told.2)
+    step_told (Err DiskFault) does = (0, does.told told_output ∙ sym (append-nil s.told))
+    step_told (Err Usage) does = (0, does.told told_output ∙ sym (append-nil s.told))
+    step_told (Err (Damaged name)) does = (0, does.told told_output ∙ sym (append-nil s.told))
+    step_told (Err InputFault) does = (0, does.told told_output ∙ sym (append-nil s.told))
+    step_told (Err InputLimit) does = (0, does.told told_output ∙ sym (append-nil s.told))
+
+    pub replies_of : (answer : Result Kind Stop) → Ends s (Asks words tells input) answer → Tells answer
+    replies_of (Ok kind) ends = step_told (Ok kind) (the_step s told_folder words tells told_input input (Ok kind) history stands wanted is ends)
+    replies_of (Err OutputFault) ends = step_told (Err OutputFault) (the_step s told_folder words tells told_input input (Err OutputFault) history stands wanted is ends)
+    replies_of (Err DiskFault) (inl all) = nothing_told DiskFault all
+    replies_of (Err DiskFault) (inr came) = step_told (Err DiskFault) (the_step s told_folder words tells told_input input (Err DiskFault) history stands wanted is came)
+    replies_of (Err Memory) (inl all) = nothing_told Memory all
+    replies_of (Err Memory) (inr came) = step_told (Err Memory) (the_step s told_folder words tells told_input input (Err Memory) history stands wanted is came)
+    replies_of (Err Usage) all = nothing_told Usage all
+    replies_of (Err (Damaged name)) all = nothing_told (Damaged name) all
+    replies_of (Err InputFault) all = nothing_told InputFault all
+    replies_of (Err InputLimit) all = nothing_told InputLimit all
+
+  abbrev Stood : Result Kind Stop → Type 0
+  Stood answer = StandsAfter (outcome_of answer) (opened history) (wanted ∷ []) s.folder_after
+
+  still : LeavesAll s → Stands s.folder_after history
+  still all = subst (λ f. Stands f history) (sym (all.folder told_folder)) stands
+
+  pub stands_of : (answer : Result Kind Stop) → Ends s (Asks words tells input) answer → Stood answer
+  stands_of (Ok kind) ends = (the_step s told_folder words tells told_input input (Ok kind) history stands wanted is ends).stands_after told_folder stands
+  stands_of (Err OutputFault) ends = inr ((the_step s told_folder words tells told_input input (Err OutputFault) history stands wanted is ends).stands_after told_folder stands)
+  stands_of (Err DiskFault) (inl all) = inl (still all)
+  stands_of (Err DiskFault) (inr came) = (the_step s told_folder words tells told_input input (Err DiskFault) history stands wanted is came).stands_after told_folder stands
+  stands_of (Err Memory) (inl all) = still all
+  stands_of (Err Memory) (inr came) = (the_step s told_folder words tells told_input input (Err Memory) history stands wanted is came).stands_after told_folder stands
+  stands_of (Err Usage) all = still all
+  stands_of (Err (Damaged name)) all = still all
+  stands_of (Err InputFault) all = still all
+  stands_of (Err InputLimit) all = still all
+
+module _ (s : Scene) (told_folder : IsTrue s.tells_folder) (words : List (List ℕ)) (tells : Bool) (told_input : IsTrue tells) (input : List ℕ) (history : History) (stands : Stands s.folder history)
+    (commands : List Command) (are : AreCommands words input commands) (outcome : Outcome) (answer : Result Kind Stop) (is : outcome ≡ outcome_of answer) (ends : Ends s (Asks words tells input) answer) where
+  pub headline_replies : IsTrue s.tells_output → TellsReplies outcome (opened history) commands s.told s.told_after
+  headline_replies told_output =
+      let told = replies_of s told_folder words tells told_input input history stands are.0 are.1 told_output answer ends in
+      subst (λ o. TellsReplies o (opened history) commands s.told s.told_after) (sym is) (subst (λ cs. TellsReplies (outcome_of answer) (opened history) cs s.told s.told_after) (sym are.2) told)
+
+  pub headline_folder : StandsAfter outcome (opened history) commands s.folder_after
+  headline_folder =
+      let stood = stands_of s told_folder words tells told_input input history stands are.0 are.1 answer ends in
+      subst (λ o. StandsAfter o (opened history) commands s.folder_after) (sym is) (subst (λ cs. StandsAfter (outcome_of answer) (opened history) cs s.folder_after) (sym are.2) stood)
+
+-- a run that came to its step saw no damaged file, and one that named a file named the first
+module _ (s : Scene) (told_folder : IsTrue s.tells_folder) (Asked : Command → Type 0) (name : List ℕ) (damaged : IsFirstDamaged s.folder name) where
+  sound : (answer : Result Kind Stop) → ComesToStep s Asked answer → ⊥
+  sound answer (asked, asks, history, does) = not_damaged s.folder history name (does.says told_folder) damaged
+
+  pub damage_found : (answer : Result Kind Stop) → Ends s Asked answer → ((other : List ℕ) → stop_of answer ≡ Some (Damaged other) → IsFirstDamaged s.folder other)
+      → (stop_of answer ≡ Some (Damaged name)) ⊎ IsBeforeOpening (stop_of answer)
+  damage_found (Ok kind) ends first = absurd (sound (Ok kind) ends)
+  damage_found (Err OutputFault) ends first = absurd (sound (Err OutputFault) ends)
+  damage_found (Err (Damaged other)) ends first = inl (ap (λ n. Some (Damaged n)) (same_damaged s.folder other name (first other refl) damaged))
+  damage_found (Err DiskFault) ends first = inr tt
+  damage_found (Err Memory) ends first = inr tt
+  damage_found (Err Usage) ends first = inr tt
+  damage_found (Err InputFault) ends first = inr tt
+  damage_found (Err InputLimit) ends first = inr tt
+
+pub damaged_cause : (s : Scene) → IsTrue s.tells_folder → (Asked : Command → Type 0) (outcome : Outcome) (answer : Result Kind Stop) → outcome ≡ outcome_of answer → Ends s Asked answer
+    → ((other : List ℕ) → stop_of answer ≡ Some (Damaged other) → IsFirstDamaged s.folder other) → DamagedCause s.folder outcome.stop
+damaged_cause s told_folder Asked outcome answer is ends first =
+    subst (λ (o : Outcome). DamagedCause s.folder o.stop) (sym is) (λ name. (first name, λ damaged. damage_found s told_folder Asked name damaged answer ends first))

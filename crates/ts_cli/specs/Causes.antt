@@ -1,0 +1,40 @@
+-- What each stop of a run comes from.
+use Rattle.std.specs.Prelude.{◌≡◌, ◌⊎◌, ℕ, ◌^◌, ◌≤◌, Bool, true, List, drop, length, Option, None, Some}
+use Rattle.ts_script.specs.Words.{IsNoCommand}
+use Rattle.ts_site.specs.Faults.{Rose}
+use Rattle.ts_site.specs.Folder.{Folder}
+use Rattle.ts_store.specs.declared.stop.Stop.{Stop}
+use Rattle.ts_store.specs.declared.stop.Stop.TheVariants.{Usage, Damaged, DiskFault, InputFault, OutputFault, InputLimit, Memory}
+use Rattle.ts_store.specs.FolderSays.{IsFirstDamaged}
+use Rattle.ts_cli.specs.Outcomes.{IsAfterReading}
+
+-- usage exactly where the words are no command, but for want of memory
+abbrev pub UsageCause : List (List ℕ) → Option Stop → Type 0
+UsageCause words stop = (stop ≡ Some Usage → IsNoCommand words) × (IsNoCommand words → (stop ≡ Some Usage) ⊎ (stop ≡ Some Memory))
+
+-- the stop is this fault exactly where the count rose
+abbrev pub Causes : Stop → Option Stop → ℕ → ℕ → Type 0
+Causes fault stop old new = (stop ≡ Some fault → Rose old new) × ((stop ≡ Some fault → ⊥) → new ≡ old)
+
+-- a run that came to no answer of its folder
+abbrev pub IsBeforeOpening : Option Stop → Type 0
+IsBeforeOpening (Some Usage) = Unit {0}
+IsBeforeOpening (Some InputFault) = Unit {0}
+IsBeforeOpening (Some InputLimit) = Unit {0}
+IsBeforeOpening (Some DiskFault) = Unit {0}
+IsBeforeOpening (Some Memory) = Unit {0}
+IsBeforeOpening _ = ⊥
+
+-- a damaged file is named exactly where it is the first one, unless another stop came before the folder was open
+abbrev pub DamagedCause : Folder → Option Stop → Type 0
+DamagedCause folder stop =
+    (name : List ℕ) → (stop ≡ Some (Damaged name) → IsFirstDamaged folder name) × (IsFirstDamaged folder name → (stop ≡ Some (Damaged name)) ⊎ IsBeforeOpening stop)
+
+-- 2^40 bytes were taken
+abbrev pub IsOverLimit : List ℕ → List ℕ → Type 0
+IsOverLimit left left_after = (2 ^ 40 ≤ length left) × (left_after ≡ drop (2 ^ 40) left)
+
+-- the limit stops exactly an input that is over it and is read, unless another stop came before
+abbrev pub LimitCause : Bool → List ℕ → List ℕ → Option Stop → Type 0
+LimitCause reads left left_after stop =
+    (stop ≡ Some InputLimit → IsOverLimit left left_after) × (reads ≡ true → 2 ^ 40 ≤ length left → IsAfterReading stop → ⊥)
