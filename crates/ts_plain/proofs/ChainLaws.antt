@@ -1,5 +1,5 @@
 -- What layers that are a chain hold and bear is what the history says.
-use Rattle.std.proofs.Common.{◌≡◌, ◌<◌, ℕ, suc, IsTrue, true≢false, cond, IfSome, IfNone, Bool, true, false, not, ◌&&◌, ◌||◌, List, [], ◌∷◌, ◌++◌, map, reverse, fold, Option, Some, None, All, refl, sym, ap, ◌∙◌, subst}
+use Rattle.std.proofs.Common.{◌≡◌, ◌<◌, ℕ, suc, IsTrue, true≢false, cond, IfSome, IfNone, Bool, false, not, ◌&&◌, ◌||◌, List, [], ◌∷◌, ◌++◌, map, reverse, Option, Some, None, All, refl, sym, ap, ◌∙◌, subst}
 use Rattle.std.specs.List.{list_any}
 use Rattle.std.specs.Option.{option_map, is_some}
 use Rattle.std.specs.FinMap.{empty, get, contains_key}
@@ -9,12 +9,11 @@ use Rattle.std.proofs.lemmas.List.Elements.{All-head, All-tail, All-map}
 use Rattle.std.specs.List.Sorted.{IsPermutation}
 use denote.Ref.{Bor}
 use Rattle.std.proofs.lemmas.List.Sorted.{All-permutation, IsPermutation-reverse}
-use Rattle.ts_model.specs.Fact.{Fact}
 use Rattle.ts_model.specs.Spelled.{Spelled}
 use Rattle.ts_model.specs.Birth.{has_term, mentions, first_place, birth_of}
 use Rattle.ts_model.specs.Order.{fact_cmp, fact_cmp_total, fact_cmp-IsAntisymmetric}
-use Rattle.ts_model.specs.Sets.{SetOf, contains, members, from_list, union, difference}
-use Rattle.ts_model.specs.History.{LayerRecord, History, chain_of, content_of, content_at, additions_at, removals_at, set_or_none, IsWellKept}
+use Rattle.ts_model.specs.Sets.{members, from_list, union, difference}
+use Rattle.ts_model.specs.History.{History, chain_of, content_of, content_at, additions_at, removals_at, set_or_none, IsWellKept}
 use Rattle.ts_model.proofs.HistoryLaws.{chain_from, chain_of-parent}
 use Rattle.ts_model.proofs.SetLaws.{contains-from_list, same_set}
 use Rattle.ts_model.proofs.SetAlgebra.{contains-empty, members-from_rising}

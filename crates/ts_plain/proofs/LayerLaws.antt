@@ -1,5 +1,5 @@
 -- One more layer above others: what it leaves, and which terms it bears.
-use Rattle.std.proofs.Common.{◌≡◌, ℕ, ◌+◌, ◌<◌, ◌≤◌, Bool, not, ◌&&◌, ◌||◌, List, [], ◌∷◌, ◌++◌, map, take, length, get_or, Option, sym, ap, ◌∙◌, arith}
+use Rattle.std.proofs.Common.{◌≡◌, ℕ, ◌+◌, ◌<◌, Bool, not, ◌&&◌, ◌||◌, List, [], ◌∷◌, ◌++◌, map, take, length, get_or, sym, ap, ◌∙◌, arith}
 use Rattle.std.specs.List.{list_any}
 use Rattle.std.specs.List.Sorted.{IsStrictlySortedBy}
 use Rattle.std.specs.Ordering.{eq_by_cmp}
@@ -10,7 +10,6 @@ use denote.Ref.{Bor}
 use Rattle.std.specs.BTreeSet.{BTreeSet}
 use Rattle.ts_model.specs.Fact.{Fact}
 use Rattle.ts_model.specs.Spelled.{Spelled}
-use Rattle.ts_model.specs.Birth.{first_place}
 use Rattle.ts_model.specs.Order.{fact_cmp, fact_cmp_total, fact_cmp-IsAntisymmetric}
 use Rattle.ts_model.specs.Sets.{SetOf, contains, members, from_list, difference}
 use Rattle.ts_model.proofs.ListLaws.{list_any-map}

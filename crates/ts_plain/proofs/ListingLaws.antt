@@ -1,10 +1,10 @@
 -- That the triples of a layer, sorted by their births, are its listing.
-use Rattle.std.proofs.Common.{◌≡◌, ℕ, ◌+◌, ◌<◌, ◌≤◌, Bool, true, false, List, [], map, length, get_or, unwrap_or, All, Option, refl, sym, ap, ◌∙◌, subst, true≢false, arith}
+use Rattle.std.proofs.Common.{◌≡◌, ℕ, ◌+◌, ◌<◌, true, false, List, [], map, length, get_or, unwrap_or, All, refl, sym, ap, ◌∙◌, subst, true≢false, arith}
 use Rattle.std.specs.declared.cmp.Ordering.{Ordering}
 use Rattle.std.specs.declared.cmp.Ordering.TheVariants.{Less, Equal, Greater}
 use Rattle.std.specs.Ordering.{eq_by_cmp, is_eq, is_lt, ordering_then, ordering_reverse}
 use Rattle.std.specs.Cmp.{IsTotalOrder, nat_cmp_total, on_total, then_total, Equal-is, tied_itself, eq_by_cmp_equiv}
-use Rattle.std.specs.List.{list_any, IsDistinct}
+use Rattle.std.specs.List.{IsDistinct}
 use Rattle.std.specs.List.Sorted.{IsStrictlySortedBy, IsSorted, IsPermutation}
 use Rattle.std.specs.Cmp.Lexicographic.{nat_list_cmp_total}
 use Rattle.std.specs.FinMap.{IsAntisymmetric}
@@ -18,7 +18,7 @@ use Rattle.ts_model.specs.History.{History, content_at}
 use Rattle.ts_model.specs.Birth.{birth_of}
 use Rattle.ts_model.specs.Listing.{birth_cmp, listing}
 use Rattle.ts_model.specs.Order.{kind_place, fact_cmp, fact_cmp_total}
-use Rattle.ts_model.specs.Sets.{SetOf, members, from_list}
+use Rattle.ts_model.specs.Sets.{members, from_list}
 use Rattle.ts_model.proofs.BirthOrder.{birth_cmp_total, birth_cmp-IsAntisymmetric}
 use Rattle.ts_model.proofs.SetLaws.{contains-from_list, members_are, IsStrictlySortedBy-members}
 use Rattle.ts_plain.specs.declared.listing.Keyed.{Keyed}

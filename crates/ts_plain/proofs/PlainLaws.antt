@@ -19,7 +19,7 @@ nothing sign rest e = cc
 
 parent_of : (number : ℕ) (parent : Option ℕ) (additions removals : List Fact) → IsPlainLayer number parent additions removals → IsParent number parent
 parent_of number None additions removals layer = tt
-parent_of number (Some parent) additions removals layer = (layer.3, layer.0.parent_fits)
+parent_of number (Some parent) additions removals layer = (layer.0.parented, layer.0.parent_fits)
 
 file_parts : (number : ℕ) (parent : Option ℕ) (additions removals : List Fact)
     → plain_file number parent additions removals ≡ head_line number parent ++ (change_lines 0x2B additions ++ change_lines 0x2D removals)
@@ -30,8 +30,8 @@ module _ (number : ℕ) (bytes : List ℕ) (parent : Option ℕ) (additions remo
   whole : bytes ≡ head_line number parent ++ (change_lines 0x2B additions ++ change_lines 0x2D removals)
   whole = is ∙ file_parts number parent additions removals
 
-  pub needs_head : ((parent : Option ℕ) (rest : List ℕ) → IsParent number parent → bytes ≢ head_line number parent ++ rest) → ⊥
-  needs_head none = none parent _ (parent_of number parent additions removals layer) whole
+  pub needs_head : ((parent : Option ℕ) (rest : List ℕ) → 1 ≤ number → IsParent number parent → bytes ≢ head_line number parent ++ rest) → ⊥
+  needs_head none = none parent _ layer.0.numbered (parent_of number parent additions removals layer) whole
 
   module _ (fits : number < 2 ^ 32) (named : Option ℕ) (body : List ℕ) (can : IsParent number named) (head : bytes ≡ head_line number named ++ body) where
     both : (named ≡ parent) × (body ≡ change_lines 0x2B additions ++ change_lines 0x2D removals)
@@ -71,11 +71,13 @@ module _ (number : ℕ) (bytes : List ℕ) (parent : Option ℕ) (additions remo
         )
 
 -- what was read is a layer's file
-pub is_layer : (number : ℕ) (bytes : List ℕ) (named : Option ℕ) (body : List ℕ) (added removed : List Fact) (behind rest : List ℕ) → IsParent number named
+pub is_layer : (number : ℕ) (bytes : List ℕ) (named : Option ℕ) (body : List ℕ) (added removed : List Fact) (behind rest : List ℕ) → 1 ≤ number → IsParent number named
     → bytes ≡ head_line number named ++ body → IsSection 0x2B body added behind → IsSection 0x2D behind removed rest → rest ≡ []
     → AreApart added removed → (named ≡ None → removed ≡ []) → IsPlainLayer number named added removed × (bytes ≡ plain_file number named added removed)
-is_layer number bytes named body added removed behind rest can head one other over apart base =
+is_layer number bytes named body added removed behind rest positive can head one other over apart base =
     let rules : KeepsPlainRules number named added removed = record {
+      numbered = positive;
+      parented = numbered named can;
       additions_rise = one.rise;
       removals_rise = other.rise;
       apart = apart;
@@ -84,7 +86,7 @@ is_layer number bytes named body added removed behind rest can head one other ov
     let last : behind ≡ change_lines 0x2D removed = other.lines ∙ ap (λ l. change_lines 0x2D removed ++ l) over ∙ append-nil (change_lines 0x2D removed) in
     let file : bytes ≡ plain_file number named added removed =
     head ∙ ap (λ l. head_line number named ++ l) (one.lines ∙ ap (λ l. change_lines 0x2B added ++ l) last) ∙ sym (file_parts number named added removed) in
-    ((rules, one.triples, other.triples, numbered named can), file)
+    ((rules, one.triples, other.triples), file)
   where
     fitting : (p : Option ℕ) → IsParent number p → (p ≡ None → removed ≡ []) → FitsParent number p removed
     fitting None h base = base refl

@@ -1,22 +1,22 @@
 -- A worked history: a base of two triples, a layer that removes the first and adds a third, and one that adds the first again.
-use Rattle.std.proofs.Common.{◌≡◌, ℕ, zero, suc, ◌<◌, ◌≤◌, ◌^◌, Bool, true, false, not, ◌&&◌, ◌||◌, cond, List, [], ◌∷◌, map, Option, Some, None, All, Contains, IsTrue, refl, sym, ap, ◌∙◌, subst, true≢false, unwrap_or, arith}
+use Rattle.std.proofs.Common.{◌≡◌, ℕ, zero, suc, Bool, true, false, not, ◌&&◌, ◌||◌, cond, List, [], ◌∷◌, Option, Some, None, Contains, IsTrue, refl, sym, ap, ◌∙◌, subst, true≢false, unwrap_or, arith}
 use Rattle.std.specs.Option.{is_some, option_map, option_and_then}
-use Rattle.std.specs.declared.cmp.Ordering.TheVariants.{Less, Equal}
+use Rattle.std.specs.declared.cmp.Ordering.TheVariants.{Less}
 use Rattle.std.specs.Ordering.{nat_cmp, eq_by_cmp, is_eq}
 use Rattle.std.specs.Cmp.{Equal-is, tied_itself, nat_cmp_total, eq_by_cmp_equiv}
-use Rattle.std.specs.List.{list_any, AllByRecursion}
+use Rattle.std.specs.List.{AllByRecursion}
 use Rattle.std.specs.List.Sorted.{IsStrictlySortedBy}
 use Rattle.std.specs.FinMap.{empty, find, get, contains_key, from_entries, get-from_entries, nat_cmp-IsAntisymmetric}
 use Rattle.std.proofs.lemmas.List.Elements.{All-cons, All-nil}
-use Rattle.ts_model.specs.Fact.{Fact}
+use Rattle.ts_model.specs.Fact.{Fact, IsTriple}
 use Rattle.ts_model.specs.Order.{fact_cmp, fact_cmp_total, fact_cmp-IsAntisymmetric}
-use Rattle.ts_model.specs.Sets.{SetOf, contains, from_list, union, difference}
+use Rattle.ts_model.specs.Sets.{contains, from_list, union, difference}
 use Rattle.ts_model.specs.History.{LayerRecord, History, IsWellKept, IsLayerKept, parent_at, additions_at, removals_at, set_or_none, chain_within, content_of, content_below}
 use Rattle.ts_model.proofs.SetLaws.{contains-from_list}
 use Rattle.ts_model.proofs.SetAlgebra.{contains-empty, contains-union, contains-difference}
 use Rattle.ts_plain.specs.declared.write.PlainLayer.{PlainLayer}
 use Rattle.ts_plain.specs.PlainRules.{KeepsPlainRules}
-use Rattle.ts_plain.specs.History.{record_of, entry_of, history_of, LayerKeepsRules, AreHistory}
+use Rattle.ts_plain.specs.History.{entry_of, history_of, LayerKeepsRules, AreHistory}
 use Rattle.ts_plain.proofs.LayerLaws.{is_among}
 
 -- ---- a history of given entries
@@ -39,6 +39,18 @@ IsWellKept-from_entries es all k layer is = find_holds (IsLayerKept (from_entrie
 
 among : (facts : List Fact) (q : Fact) → contains (from_list {R = fact_cmp} facts) q ≡ is_among facts q
 among facts q = contains-from_list fact_cmp fact_cmp_total facts q
+
+-- what a list of triples has is a triple
+triple_in : (facts : List Fact) → AllByRecursion IsTriple facts → (q : Fact) → contains (from_list {R = fact_cmp} facts) q ≡ true → IsTriple q
+triple_in facts all q is = found facts all (sym (among facts q) ∙ is)
+  where
+    found : (facts : List Fact) → AllByRecursion IsTriple facts → is_among facts q ≡ true → IsTriple q
+    found [] all is = absurd (true≢false (sym is))
+    found (f ∷ facts) all is =
+        elim (eq_by_cmp fact_cmp q f) as (λ b. eq_by_cmp fact_cmp q f ≡ b → (b || is_among facts q) ≡ true → IsTriple q) [
+          | true ↦ λ here _. subst IsTriple (sym (fact_cmp-IsAntisymmetric q f ((Equal-is (fact_cmp q f)).0 here))) all.0
+          | false ↦ λ there later. found facts all.1 later
+        ] refl is
 
 same_fact : (q x : Fact) → contains (from_list {R = fact_cmp} (x ∷ [])) q ≡ true → x ≡ q
 same_fact q x is = sym (fact_cmp-IsAntisymmetric q x ((Equal-is (fact_cmp q x)).0 (sym (or_false (eq_by_cmp fact_cmp q x)) ∙ sym (among (x ∷ []) q) ∙ is)))
@@ -99,18 +111,20 @@ module _ (x y z : Fact) (x_y : fact_cmp x y ≡ Less) (z_x : eq_by_cmp fact_cmp 
   below_3 : content_below story 3 ≡ union (difference (from_list (x ∷ y ∷ [])) (from_list (x ∷ []))) (from_list (z ∷ []))
   below_3 = ap (content_of story) chain_3 ∙ (λ i. union (difference (added 1 i) (removed 2 i)) (added 2 i))
 
-  kept_1 : IsLayerKept story 1 base
-  kept_1 = record {
+  kept_1 : IsTriple x → IsTriple y → IsLayerKept story 1 base
+  kept_1 is_x is_y = record {
     number = (omega arith, omega arith);
+    triples = triple_in (x ∷ y ∷ []) (is_x, (is_y, tt));
     parent = tt;
     base = λ none. refl;
     removed = λ q is. absurd (not_empty q is);
     added = λ q is. ap (λ set. contains set q) below_1 ∙ contains-empty fact_cmp q;
   }
 
-  kept_2 : IsLayerKept story 2 middle
-  kept_2 = record {
+  kept_2 : IsTriple z → IsLayerKept story 2 middle
+  kept_2 is_z = record {
     number = (omega arith, omega arith);
+    triples = triple_in (z ∷ []) (is_z, tt);
     parent = (omega arith, ap is_some (at 1));
     base = λ none. let never : ⊥ = cc in absurd never;
     removed = λ q is. subst (λ q. contains (content_below story 2) q ≡ true) (same_fact q x is)
@@ -128,17 +142,18 @@ module _ (x y z : Fact) (x_y : fact_cmp x y ≡ Less) (z_x : eq_by_cmp fact_cmp 
       ∙ (λ i. (among (x ∷ y ∷ []) x i && not (among (x ∷ []) x i)) || (x_z i || false))
       ∙ (λ i. ((itself x i || is_among (y ∷ []) x) && not (itself x i || false)) || false)
 
-  kept_3 : IsLayerKept story 3 last
-  kept_3 = record {
+  kept_3 : IsTriple x → IsLayerKept story 3 last
+  kept_3 is_x = record {
     number = (omega arith, omega arith);
+    triples = triple_in (x ∷ []) (is_x, tt);
     parent = (omega arith, ap is_some (at 2));
     base = λ none. let never : ⊥ = cc in absurd never;
     removed = λ q is. absurd (not_empty q is);
     added = λ q is. subst (λ q. contains (content_below story 3) q ≡ false) (same_fact q x is) gone;
   }
 
-  kept : IsWellKept story
-  kept = IsWellKept-from_entries entries_of (kept_1, (kept_2, (kept_3, tt)))
+  kept : IsTriple x → IsTriple y → IsTriple z → IsWellKept story
+  kept is_x is_y is_z = IsWellKept-from_entries entries_of (kept_1 is_x is_y, (kept_2 is_z, (kept_3 is_x, tt)))
 
 -- ---- as layers
 
@@ -165,7 +180,7 @@ none_twice fact facts h none = omega (arith, none.1)
 module _ (x y z : Fact) (x_y : fact_cmp x y ≡ Less) (z_x : eq_by_cmp fact_cmp z x ≡ false) (z_y : eq_by_cmp fact_cmp z y ≡ false) where
   rules_1 : KeepsPlainRules 1 None (x ∷ y ∷ []) []
   unfolding IsStrictlySortedBy
-  rules_1 = record { additions_rise = ((x_y, tt), (tt, tt)); removals_rise = tt; apart = λ fact h none. none_twice fact (x ∷ y ∷ []) h none; parent_fits = refl }
+  rules_1 = record { numbered = omega arith; parented = tt; additions_rise = ((x_y, tt), (tt, tt)); removals_rise = tt; apart = λ fact h none. none_twice fact (x ∷ y ∷ []) h none; parent_fits = refl }
 
   alone : (f q : Fact) → Contains (f ∷ []) q → f ≡ q
   alone f q (zero, below, is) = is
@@ -174,6 +189,8 @@ module _ (x y z : Fact) (x_y : fact_cmp x y ≡ Less) (z_x : eq_by_cmp fact_cmp 
   rules_2 : KeepsPlainRules 2 (Some 1) (z ∷ []) (x ∷ [])
   unfolding IsStrictlySortedBy
   rules_2 = record {
+    numbered = omega arith;
+    parented = omega arith;
     additions_rise = (tt, tt);
     removals_rise = (tt, tt);
     apart = λ fact h k. true≢false (sym (itself x) ∙ ap (λ f. eq_by_cmp fact_cmp f x) (alone x fact k ∙ sym (alone z fact h)) ∙ z_x);
@@ -182,7 +199,7 @@ module _ (x y z : Fact) (x_y : fact_cmp x y ≡ Less) (z_x : eq_by_cmp fact_cmp 
 
   rules_3 : KeepsPlainRules 3 (Some 2) (x ∷ []) []
   unfolding IsStrictlySortedBy
-  rules_3 = record { additions_rise = (tt, tt); removals_rise = tt; apart = λ fact h none. none_twice fact (x ∷ []) h none; parent_fits = omega arith }
+  rules_3 = record { numbered = omega arith; parented = omega arith; additions_rise = (tt, tt); removals_rise = tt; apart = λ fact h none. none_twice fact (x ∷ []) h none; parent_fits = omega arith }
 
   rising_numbers : IsStrictlySortedBy nat_cmp (1 ∷ 2 ∷ 3 ∷ [])
   unfolding IsStrictlySortedBy
@@ -193,13 +210,13 @@ module _ (x y z : Fact) (x_y : fact_cmp x y ≡ Less) (z_x : eq_by_cmp fact_cmp 
     is_story = λ i.
         from_entries (entry_is one 1 None (x ∷ y ∷ []) [] first i ∷ entry_is two 2 (Some 1) (z ∷ []) (x ∷ []) second i ∷ entry_is three 3 (Some 2) (x ∷ []) [] third i ∷ [])
 
-    pub AreHistory-story : AreHistory (one ∷ two ∷ three ∷ [])
-    AreHistory-story = record {
+    pub AreHistory-story : IsTriple x → IsTriple y → IsTriple z → AreHistory (one ∷ two ∷ three ∷ [])
+    AreHistory-story is_x is_y is_z = record {
       numbers_rise = subst (IsStrictlySortedBy nat_cmp) (λ i. sym first.number_is i ∷ sym second.number_is i ∷ sym third.number_is i ∷ []) rising_numbers;
       rules = All-cons LayerKeepsRules one (two ∷ three ∷ []) (keeps one 1 None (x ∷ y ∷ []) [] first rules_1)
           (All-cons LayerKeepsRules two (three ∷ []) (keeps two 2 (Some 1) (z ∷ []) (x ∷ []) second rules_2)
           (All-cons LayerKeepsRules three [] (keeps three 3 (Some 2) (x ∷ []) [] third rules_3) (All-nil LayerKeepsRules)));
-      well_kept = subst IsWellKept (sym is_story) (kept x y z x_y z_x z_y);
+      well_kept = subst IsWellKept (sym is_story) (kept x y z x_y z_x z_y is_x is_y is_z);
     }
 
     pub stands-2 : IsTrue (contains_key (history_of (one ∷ two ∷ three ∷ [])) 2)

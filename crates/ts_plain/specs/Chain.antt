@@ -2,7 +2,6 @@
 use Rattle.std.specs.Prelude.{◌≡◌, ℕ, Bool, List, map, fold, reverse, Option, Some, All}
 use Rattle.std.specs.FinMap.{empty, get}
 use Rattle.std.specs.List.{list_any}
-use Rattle.ts_model.specs.Fact.{Fact}
 use Rattle.ts_model.specs.Spelled.{Spelled}
 use Rattle.ts_model.specs.Order.{fact_cmp}
 use Rattle.ts_model.specs.Sets.{SetOf, from_list, union, difference}

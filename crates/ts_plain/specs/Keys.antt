@@ -1,9 +1,8 @@
 -- Birth order by a function that gives births.
-use Rattle.std.specs.Prelude.{◌≡◌, ℕ, List}
+use Rattle.std.specs.Prelude.{◌≡◌, ℕ}
 use Rattle.std.specs.declared.cmp.Ordering.{Ordering}
-use Rattle.std.specs.Ordering.{nat_cmp, on, then_cmp, ordering_then}
+use Rattle.std.specs.Ordering.{nat_cmp, ordering_then}
 use Rattle.std.specs.Cmp.Lexicographic.{slice_cmp}
-use Rattle.ts_model.specs.Fact.{Fact}
 use Rattle.ts_model.specs.Spelled.{Spelled}
 use Rattle.ts_model.specs.Order.{kind_place}
 use Rattle.ts_plain.specs.declared.listing.Keyed.{Keyed}

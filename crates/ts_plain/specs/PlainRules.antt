@@ -9,14 +9,16 @@ abbrev pub FitsParent : ℕ → Option ℕ → List Fact → Type 0
 FitsParent number None removals = removals ≡ []
 FitsParent number (Some parent) removals = parent < number
 
--- additions and removals rise, and no triple stands in both
+-- the layer has a number, and so has its parent; additions and removals rise, and no triple stands in both
 pub record KeepsPlainRules (number : ℕ) (parent : Option ℕ) (additions removals : List Fact) : Type 0 where
+  pub numbered : 1 ≤ number
+  pub parented : IfSome parent (λ p. 1 ≤ p)
   pub additions_rise : IsStrictlySortedBy fact_cmp additions
   pub removals_rise : IsStrictlySortedBy fact_cmp removals
   pub apart : (fact : Fact) → Contains additions fact → Contains removals fact → ⊥
   pub parent_fits : FitsParent number parent removals
 
--- what has a plain file that is read: the rules, and triples alone, and a parent with a number
+-- what has a plain file that is read: the rules, and triples alone
 abbrev pub IsPlainLayer : ℕ → Option ℕ → List Fact → List Fact → Type 0
 IsPlainLayer number parent additions removals =
-    KeepsPlainRules number parent additions removals × All IsTriple additions × All IsTriple removals × IfSome parent (λ p. 1 ≤ p)
+    KeepsPlainRules number parent additions removals × All IsTriple additions × All IsTriple removals

@@ -1,4 +1,4 @@
-ghost use Rattle.std.specs.Prelude.{◌≢◌, ◌≡◌, ◌<◌, ◌^◌, ◌∷◌, ◌++◌, ℕ, List, IfSome, IfNone, Option};
+ghost use Rattle.std.specs.Prelude.{◌≢◌, ◌≡◌, ◌<◌, ◌≤◌, ◌^◌, ◌∷◌, ◌++◌, ℕ, List, IfSome, IfNone, Option};
 ghost use Rattle.ts_model.specs.LayerText.{layer_text};
 ghost use Rattle.ts_plain.specs.PlainFile.{head_line, parent_text};
 ghost use Rattle.ts_plain.specs.PlainReading.{IsParent};
@@ -20,11 +20,14 @@ struct Named<'a> {
     rest: &'a [u8],
 }
 
-/// The head of the plain file of a layer of that number, at the front of the bytes.
+/// The head of the plain file of a layer of that number, at the front of the bytes. No layer has the number 0.
 pub fn read_head(bytes: &[u8], number: u32) -> Option<Head<'_>>
-    ensures some { IfSome result (λ head. IsParent number head.parent × (bytes.now ≡ head_line number head.parent ++ head.rest.now)) }
-    ensures none { IfNone result ((parent : Option ℕ) (rest : List ℕ) → IsParent number parent → bytes.now ≢ head_line number parent ++ rest) }
+    ensures some { IfSome result (λ head. (1 ≤ number) × IsParent number head.parent × (bytes.now ≡ head_line number head.parent ++ head.rest.now)) }
+    ensures none { IfNone result ((parent : Option ℕ) (rest : List ℕ) → 1 ≤ number → IsParent number parent → bytes.now ≢ head_line number parent ++ rest) }
 {
+    if number == 0 {
+        return None;
+    }
     let named = behind(b"plain ", bytes)?;
     let spaced = behind(layer_text(number).as_slice(), named)?;
     let parented = behind(b" ", spaced)?;

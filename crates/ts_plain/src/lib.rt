@@ -1,10 +1,10 @@
 //! The plain file of a layer, and the listing of a layer from such files.
 //!
 //! [`write_plain`] makes the file of a [`PlainLayer`]: one readable line for the layer, and one for each change. Its
-//! additions and removals rise and have no triple in common, its parent is less than it, and it has no removals where it
-//! has no parent. [`read_plain`] gives the layer of a file, or [`PlainError`]. [`plain_listing`] gives the triples of a
-//! layer in birth order: it climbs down the chain by binary search, replays the chain from its base over one sorted set,
-//! notes the first layer of each term, and sorts once.
+//! number and its parent's are at least 1, its additions and removals rise and have no triple in common, its parent is
+//! less than it, and it has no removals where it has no parent. [`read_plain`] gives the layer of a file, or
+//! [`PlainError`]. [`plain_listing`] gives the triples of a layer in birth order: it climbs down the chain by binary
+//! search, replays the chain from its base over one sorted set, notes the first layer of each term, and sorts once.
 //!
 //! The layer above uses that the bytes that are written are exactly the layer's plain file, that bytes are read just where
 //! they are exactly such a file, and that a listing is exactly the listing of the layer in the history that the layers make.

@@ -80,6 +80,20 @@ const FILES: &[(&str, &str)] = &[
     ("plain 00000002 none\n- <a> <p> <b> .\n", "not plain"),
 ];
 
+/// No layer has the number 0, and none has it for a parent.
+#[test]
+fn number_zero_is_refused(rt: HostRuntime) -> Result<(), Fail> {
+    let alloc = rt.alloc();
+    for (file, number) in [
+        ("plain 00000000 none\n", 0),
+        ("plain 00000001 00000000\n", 1),
+    ] {
+        let seen = shown(alloc, file.as_bytes(), number)?;
+        assert_eq!(rt; seen.as_slice(), b"not plain".as_slice(), "{file}");
+    }
+    Ok(())
+}
+
 #[test]
 fn files_are_read_or_refused(rt: HostRuntime) -> Result<(), Fail> {
     let alloc = rt.alloc();

@@ -1,6 +1,7 @@
 ghost use Rattle.std.specs.Prelude.{◌≡◌, true, false, map, IfOk, IsTrue};
 ghost use Rattle.std.specs.FinMap.{contains_key};
 ghost use Rattle.std.specs.Ordering.{eq_by_cmp};
+ghost use Rattle.ts_model.specs.Fact.{IsTriple};
 ghost use Rattle.ts_model.specs.Order.{fact_cmp};
 ghost use Rattle.ts_plain.specs.History.{AreHistory, history_of};
 
@@ -21,7 +22,7 @@ fn a_base_layer_of_two_triples(rt: HostRuntime) -> Result<(), Fail> {
     let layer = PlainLayer {
         number: 1,
         parent: None,
-        additions: net_additions(alloc, body)?,
+        additions: net_additions(alloc, &body)?,
         removals: Vec::new(alloc),
     };
     let file = write_plain(alloc, &layer)?;
@@ -62,6 +63,15 @@ fn layer(
     })
 }
 
+/// Shows that a triple is of terms.
+fn is_triple(triple: &Triple)
+    ensures { IsTriple triple.now }
+{
+    let _subject = triple.subject().spelling();
+    let _predicate = triple.predicate().spelling();
+    let _object = triple.object().spelling();
+}
+
 /// A base of two triples; a layer that removes the first and adds a third; and a layer that adds the first again.
 fn story<'a>(
     alloc: Global,
@@ -76,6 +86,9 @@ fn story<'a>(
         × IsTrue (contains_key (history_of layers.items) 2)
         × IsTrue (contains_key (history_of layers.items) 3)) }
 {
+    is_triple(x);
+    is_triple(y);
+    is_triple(z);
     let base = layer(alloc, 1, None, &[x, y], &[])?;
     let middle = layer(alloc, 2, Some(1), &[z], &[x])?;
     let last = layer(alloc, 3, Some(2), &[x], &[])?;

@@ -1,5 +1,5 @@
 -- The names of the store's files are names of files.
-use Rattle.std.proofs.Common.{◌≡◌, ◌≢◌, ℕ, ◌/◌, ◌%◌, ◌<◌, ◌==◌, ◌&&◌, Bool, true, false, not, nat_le, List, [], ◌∷◌, length, get_or, refl, sym, ◌∙◌, ap, arith, length-append, IsTrue}
+use Rattle.std.proofs.Common.{◌≡◌, ◌≢◌, ℕ, ◌/◌, ◌%◌, ◌<◌, ◌==◌, ◌&&◌, Bool, true, false, not, nat_le, List, [], ◌∷◌, length, get_or, refl, sym, ◌∙◌, ap, subst, arith, length-append, IsTrue}
 use Rattle.std.specs.Prelude.{codes, All, slice_index}
 use Rattle.std.specs.Int.{w32, to_be_bytes}
 use Rattle.std.specs.List.{list_all, AllByRecursion}
@@ -101,9 +101,12 @@ label_byte b is =
       no_slash = eqb-false b 0x2F (not_true (b == 0x2F) (second_true (nat_le 0x21 b && nat_le b 0x7E) (not (b == 0x2F)) low));
     }
 
-pub label_file_name-IsFileName : (name : List ℕ) → IsLabelName name → IsFileName (label_file_name name)
+label_file_name-IsFileName : (name : List ℕ) → IsLabelName name → IsFileName (label_file_name name)
 label_file_name-IsFileName name is = record {
   not_empty = omega (arith, length-append name (codes ".label"), is.0);
   within = omega (arith, length-append name (codes ".label"), is.1);
   visible = All-append IsNameByte name (codes ".label") (All-weaker (λ b. IsTrue (is_label_byte b)) IsNameByte label_byte name is.2) (all_seen (codes ".label") refl);
 }
+
+pub IsFileName-of_label : (name bytes : List ℕ) → IsLabelName name → bytes ≡ label_file_name name → IsFileName bytes
+IsFileName-of_label name bytes is same = subst IsFileName (sym same) (label_file_name-IsFileName name is)

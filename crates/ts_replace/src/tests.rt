@@ -3,6 +3,7 @@ ghost use Rattle.ts_site.specs.MemorySite.{memory_calls};
 
 use super::*;
 use std::test::Fail;
+use ts_model::LabelName;
 use ts_site::{FileName, MemorySite};
 
 #[test]
@@ -25,6 +26,15 @@ fn a_file_is_changed_whole(rt: HostRuntime) -> Result<(), Fail> {
     );
     // Five calls each, and the bytes.
     assert_eq!(rt; site.room(), (10, 89));
+    Ok(())
+}
+
+#[test]
+fn files_are_named(rt: HostRuntime) -> Result<(), Fail> {
+    assert_eq!(rt; layer_file(26).bytes(), b"0000001a.layer".as_slice());
+    assert_eq!(rt; rollup_file(26).bytes(), b"0000001a.rollup".as_slice());
+    let label = LabelName::of(b"main").ok_or("label")?;
+    assert_eq!(rt; label_file(&label).bytes(), b"main.label".as_slice());
     Ok(())
 }
 

@@ -1,4 +1,4 @@
-use Rattle.std.proofs.Common.{◌≡◌, ℕ, ◌+◌, List, [], ◌++◌, map, Option, Some, None, All, IfSome}
+use Rattle.std.proofs.Common.{◌≡◌, ℕ, ◌+◌, ◌++◌, map, Option, Some, None, All, IfSome}
 use denote.Ref.{Bor}
 use Rattle.ts_model.specs.History.{chain_of}
 use Rattle.ts_model.proofs.HistoryLaws.{chain_from}

@@ -5,7 +5,7 @@ use Rattle.std.proofs.lemmas.List.{take_all}
 use denote.Ref.{Bor}
 use Rattle.ts_model.specs.Fact.{Fact}
 use Rattle.ts_model.specs.Order.{fact_cmp}
-use Rattle.ts_model.specs.Sets.{contains, members}
+use Rattle.ts_model.specs.Sets.{contains}
 use Rattle.ts_model.proofs.SetAlgebra.{contains-empty}
 use Rattle.ts_plain.specs.Chain.{content_over}
 use Rattle.ts_plain.proofs.LayerLaws.{seen, is_among, content_over-more, contains-content_above, members-of_held}

@@ -13,7 +13,7 @@ returns-in_err-additions-clause-err c =
     let named = c.in-Some.ensures.some in
     let p = err_from_is_err_and c.from_residual.result c.from_residual.ensures.1 in
     rw (p.1, p.2) (λ e parent additions removals layer is.
-    needs_additions c.args.number c.args.bytes.now parent additions removals layer is (omega arith) head.parent head.rest.now named.0 named.1 (c.in_err-additions.ensures.err e))
+    needs_additions c.args.number c.args.bytes.now parent additions removals layer is (omega arith) head.parent head.rest.now named.1 named.2 (c.in_err-additions.ensures.err e))
 
 pub returns-in_err-removals-clause-err : goal.returns-in_err-removals-clause-err
 returns-in_err-removals-clause-err c =
@@ -22,7 +22,7 @@ returns-in_err-removals-clause-err c =
     let added = c.in_ok-additions.additions in
     let p = err_from_is_err_and c.from_residual-in_err-removals.result c.from_residual-in_err-removals.ensures.1 in
     rw (p.1, p.2) (λ e parent additions removals layer is.
-    needs_removals c.args.number c.args.bytes.now parent additions removals layer is (omega arith) head.parent head.rest.now named.0 named.1
+    needs_removals c.args.number c.args.bytes.now parent additions removals layer is (omega arith) head.parent head.rest.now named.1 named.2
     added.triples.items added.rest.now c.in_ok-additions.ensures.ok (c.in_err-removals.ensures.err e))
 
 pub returns-then-not-is_empty-clause-err : goal.returns-then-not-is_empty-clause-err
@@ -33,11 +33,11 @@ returns-then-not-is_empty-clause-err c = λ e parent additions removals layer is
     let removed = c.in_ok-removals.removals in
     elim c.then-not-is_empty.branch [
       | then-not-is_empty-via-then-not-is_empty w ↦
-          let over = needs_end c.args.number c.args.bytes.now parent additions removals layer is (omega arith) head.parent head.rest.now named.0 named.1
+          let over = needs_end c.args.number c.args.bytes.now parent additions removals layer is (omega arith) head.parent head.rest.now named.1 named.2
           added.triples.items added.rest.now c.in_ok-additions.ensures.ok removed.triples.items removed.rest.now c.in_ok-removals.ensures.ok in
           true≢false (sym (c.is_empty.ensures ∙ ap (λ l. length l == 0) over) ∙ w.if-not-is_empty.true)
       | then-not-is_empty-via-else-not-is_empty+then-not-fit w ↦
-          let apart = needs_apart c.args.number c.args.bytes.now parent additions removals layer is (omega arith) head.parent head.rest.now named.0 named.1
+          let apart = needs_apart c.args.number c.args.bytes.now parent additions removals layer is (omega arith) head.parent head.rest.now named.1 named.2
           added.triples.items added.rest.now c.in_ok-additions.ensures.ok removed.triples.items removed.rest.now c.in_ok-removals.ensures.ok in
           let first : AreApart c.as_slice-triples.result.now removed.triples.items = subst (λ facts. AreApart facts removed.triples.items) (sym c.as_slice-triples.ensures.value) apart.0 in
           let both : AreApart c.as_slice-triples.result.now w.as_slice.result.now = subst (AreApart c.as_slice-triples.result.now) (sym w.as_slice.ensures.value) first in
@@ -55,5 +55,5 @@ returns-clause-ok c =
     let first : AreApart added.triples.items c.as_slice.result.now = subst (λ facts. AreApart facts c.as_slice.result.now) c.as_slice-triples.ensures.value apart.0 in
     let both : AreApart added.triples.items removed.triples.items = subst (AreApart added.triples.items) c.as_slice.ensures.value first in
     let layer = is_layer c.args.number c.args.bytes.now head.parent head.rest.now added.triples.items removed.triples.items added.rest.now removed.rest.now
-    named.0 named.1 c.in_ok-additions.ensures.ok c.in_ok-removals.ensures.ok over both (λ none. sym c.as_slice.ensures.value ∙ apart.1 none) in
+    named.0 named.1 named.2 c.in_ok-additions.ensures.ok c.in_ok-removals.ensures.ok over both (λ none. sym c.as_slice.ensures.value ∙ apart.1 none) in
     (refl, layer.0, layer.1)

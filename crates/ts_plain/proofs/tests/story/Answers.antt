@@ -21,7 +21,7 @@ returns c =
     let second : Says middle 2 (Some 1) (z ∷ []) (x ∷ []) = record { number_is = m.number; parent_is = m.parent; additions_are = m.additions; removals_are = m.removals } in
     let third : Says last 3 (Some 2) (x ∷ []) [] = record { number_is = l.number; parent_is = l.parent; additions_are = l.additions; removals_are = l.removals } in
     subst (λ (layers : List PlainLayer). AreHistory layers × IsTrue (contains_key (history_of layers) 2) × IsTrue (contains_key (history_of layers) 3)) (sym c.in_ok-layers.ensures.items) (
-      AreHistory-story x y z r.rise r.not_first r.not_second base middle last first second third,
+      AreHistory-story x y z r.rise r.not_first r.not_second base middle last first second third c.is_triple.ensures c.is_triple-2.ensures c.is_triple-3.ensures,
       stands-2 x y z r.rise r.not_first r.not_second base middle last first second third,
       stands-3 x y z r.rise r.not_first r.not_second base middle last first second third,
     )
