@@ -1,8 +1,9 @@
 -- What is decoded from a layer's text.
-use Rattle.std.proofs.Common.{◌≡◌, ℕ, ◌<◌, ◌^◌, ◌%◌, ◌/◌, List, [], ◌∷◌, zero, suc, Result, Ok, Err, MatchResult, ap, subst, ◌∙◌, refl, arith}
+use Rattle.std.proofs.Common.{◌≡◌, ◌≢◌, false, ◌==◌, ◌++◌, length, codes, slice_index, sym, true≢false, ℕ, ◌<◌, ◌^◌, ◌%◌, ◌/◌, List, [], ◌∷◌, zero, suc, Result, Ok, Err, MatchResult, ap, subst, ◌∙◌, refl, arith}
 use Rattle.std.specs.Int.{w32, to_be_bytes, from_be_bytes}
 use Rattle.std.proofs.lemmas.Nat.{from_be_bytes-to_be_bytes_4}
-use Rattle.hex.specs.Hex.{decode_sized, IsBytes}
+use Rattle.std.proofs.lemmas.Bool.{agree_below_at}
+use Rattle.hex.specs.Hex.{decode_sized, encode_with, lower_digits, IsBytes}
 use Rattle.hex.specs.declared.error.FromHexError.{FromHexError}
 use Rattle.hex.proofs.HexLemmas.{decode_sized-encode_lower}
 use Rattle.ts_model.specs.LayerText.{layer_text}
@@ -39,3 +40,20 @@ pub given_back : (n : ℕ) (text written : List ℕ) (answer : Result (Unit {0})
     → Decoded (decode_sized text 4) answer written → from_be_bytes w32 written ≡ n
 given_back n text written answer below is h =
     ap (from_be_bytes w32) (subst (λ d. Decoded d answer written) (decoded n text is) h).1 ∙ from_be_bytes-to_be_bytes_4 n below
+
+-- a layer's number has 8 digits
+pub text_length : (layer : ℕ) → length (layer_text layer) ≡ 8
+unfolding encode_with
+text_length layer = refl
+
+no_digit : (digit : ℕ) → digit < 16 → slice_index lower_digits digit ≢ 0x6E
+no_digit digit small e =
+    let other : (slice_index lower_digits digit == 0x6E) ≡ false = agree_below_at (λ d. slice_index lower_digits d == 0x6E) (λ d. false) 16 digit refl small in
+    true≢false (sym (ap (λ b. b == 0x6E) e) ∙ other)
+
+-- and none of them is `n`
+pub not_none : (layer : ℕ) (rest more : List ℕ) → layer_text layer ++ rest ≢ codes "none" ++ more
+unfolding encode_with
+not_none layer rest more e =
+    let first : slice_index lower_digits (layer / 16777216 % 256 / 16) ≡ 0x6E = cc in
+    no_digit (layer / 16777216 % 256 / 16) (omega arith) first

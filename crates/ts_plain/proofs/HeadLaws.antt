@@ -4,28 +4,10 @@ use Rattle.std.proofs.lemmas.Bool.{agree_below_at}
 use Rattle.std.proofs.lemmas.List.{append_cancel_left, take_at, drop_at}
 use Rattle.std.specs.Int.{w32, to_be_bytes, from_be_bytes}
 use Rattle.std.proofs.lemmas.Nat.{from_be_bytes-to_be_bytes_4}
-use Rattle.hex.specs.Hex.{encode_with, lower_digits}
 use Rattle.ts_model.specs.LayerText.{layer_text}
-use Rattle.ts_model.proofs.LayerLemmas.{decoded}
+use Rattle.ts_model.proofs.LayerLemmas.{decoded, text_length, not_none}
 use Rattle.ts_plain.specs.PlainFile.{head_line, parent_text}
 use Rattle.ts_plain.specs.PlainReading.{IsParent}
-
--- a layer's number has 8 digits
-pub text_length : (layer : ℕ) → length (layer_text layer) ≡ 8
-unfolding encode_with
-text_length layer = refl
-
-no_digit : (digit : ℕ) → digit < 16 → slice_index lower_digits digit ≢ 0x6E
-no_digit digit small e =
-    let other : (slice_index lower_digits digit == 0x6E) ≡ false = agree_below_at (λ d. slice_index lower_digits d == 0x6E) (λ d. false) 16 digit refl small in
-    true≢false (sym (ap (λ b. b == 0x6E) e) ∙ other)
-
--- and none of them is `n`
-pub not_none : (layer : ℕ) (rest more : List ℕ) → layer_text layer ++ rest ≢ codes "none" ++ more
-unfolding encode_with
-not_none layer rest more e =
-    let first : slice_index lower_digits (layer / 16777216 % 256 / 16) ≡ 0x6E = cc in
-    no_digit (layer / 16777216 % 256 / 16) (omega arith) first
 
 -- the head, part by part
 pub head_parts : (number : ℕ) (parent : Option ℕ) (rest : List ℕ)

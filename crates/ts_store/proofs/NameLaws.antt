@@ -3,7 +3,7 @@ use Rattle.std.proofs.Common.{◌≡◌, ◌≢◌, ℕ, ◌+◌, ◌<◌, ◌�
 use Rattle.std.proofs.lemmas.List.{append_cancel_right}
 use Rattle.ts_model.specs.LayerText.{layer_text}
 use Rattle.ts_model.proofs.Fronts.{same_fronts}
-use Rattle.ts_plain.proofs.HeadLaws.{text_length}
+use Rattle.ts_model.proofs.LayerLemmas.{text_length}
 use Rattle.ts_replace.specs.Names.{IsLayerNumber, layer_name, rollup_name, label_file_name}
 use Rattle.ts_replace.specs.Replaced.{new_tmp}
 use Rattle.ts_replace.proofs.NamedLemmas.{layer_text_tells}

@@ -116,7 +116,7 @@ module _ (folder : Folder) where
 
 -- the members of a set of triples are additions of a base
 plain_base : (k : ℕ) (set : SetOf fact_cmp) → IsLayerNumber k → All IsTriple (members set) → IsPlainLayer k None (members set) []
-plain_base k set is triples = (KeepsPlainRules-base k set, triples, (λ i d below. absurd (omega arith)), tt)
+plain_base k set is triples = (KeepsPlainRules-base k set is.0, triples, (λ i d below. absurd (omega arith)))
 
 -- so the file of a base is one of a base
 is_base_file : (k : ℕ) (layer : LayerRecord) → IsLayerNumber k → IsBase layer → IsBaseFile k (file_of k layer)

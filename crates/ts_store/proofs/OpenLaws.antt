@@ -41,7 +41,7 @@ module _ (number : ℕ) (bytes : List ℕ) where
   pub child_is_no_base : number < 2 ^ 32 → (p : ℕ) (additions removals : List Fact) → IsPlainLayer number (Some p) additions removals → bytes ≡ plain_file number (Some p) additions removals → IsBaseFile number bytes → ⊥
   child_is_no_base small p additions removals layer is (others, base, is_base) =
       let same = head_once number (Some p) None (change_lines 0x2B additions ++ change_lines 0x2D removals) (change_lines 0x2B others ++ change_lines 0x2D []) bytes small
-      (layer.3, layer.0.parent_fits) tt
+      (layer.0.parented, layer.0.parent_fits) tt
       (is ∙ append_assoc (head_line number (Some p)) (change_lines 0x2B additions) (change_lines 0x2D removals))
       (is_base ∙ append_assoc (head_line number None) (change_lines 0x2B others) (change_lines 0x2D [])) in
       let none : true ≡ false = ap is_some same.0 in true≢false none
@@ -90,17 +90,17 @@ module _ (folder : Folder) where
         let same : other ≡ layer_name number = cc in
         ((is_number, (shown, file_is, none)), same)
 
-  base_is : (loaded : Loaded) → IsReadFrom folder loaded → IsBaseFile loaded.number (file_of loaded.number (base_record loaded.triples.items))
-  base_is loaded read =
+  base_is : (loaded : Loaded) → IsLayerNumber loaded.number → IsReadFrom folder loaded → IsBaseFile loaded.number (file_of loaded.number (base_record loaded.triples.items))
+  base_is loaded is read =
       let set = from_list {R = fact_cmp} loaded.triples.items in
-      (members set, (KeepsPlainRules-base loaded.number set, read.triples, (λ k d below. absurd (omega arith)), tt), ap (plain_file loaded.number None (members set)) members-empty)
+      (members set, (KeepsPlainRules-base loaded.number set is.0, read.triples, (λ k d below. absurd (omega arith))), ap (plain_file loaded.number None (members set)) members-empty)
 
   -- a layer that was read is not damaged
   pub read_is_sound : (loaded : Loaded) → IsReadFrom folder loaded → IsDamagedLayer folder loaded.number → ⊥
   read_is_sound loaded read (is, (file, stands, none)) =
       let both : Some file ≡ Some (file_of loaded.number (base_record loaded.triples.items)) = sym stands ∙ read.file in
       let same : file ≡ file_of loaded.number (base_record loaded.triples.items) = cc in
-      none (subst (IsBaseFile loaded.number) (sym same) (base_is loaded read))
+      none (subst (IsBaseFile loaded.number) (sym same) (base_is loaded is read))
 
   pub get_or-default : (xs : List ℕ) (i d e : ℕ) → i < length xs → get_or xs i d ≡ get_or xs i e
   get_or-default [] i d e below = absurd (omega arith)

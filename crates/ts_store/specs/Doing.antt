@@ -72,10 +72,8 @@ pub record IsFirstOf (folder : Folder) (numbers : List ℕ) (name : List ℕ) : 
   pub named : name ≡ layer_name number
   pub first : (j : ℕ) → Contains numbers j → j < number → IsDamagedLayer folder j → ⊥
 
--- the first rollup is at fault, or where there is none the first label; or memory ran out
+-- the first rollup is at fault, or where there is none the first label
 abbrev pub IsOtherStop : List ℕ → List (List ℕ) → Stop → Type 0
 IsOtherStop (k ∷ rollups) labels (Damaged name) = name ≡ rollup_name k
 IsOtherStop [] (label ∷ labels) (Damaged name) = name ≡ label_file_name label
-IsOtherStop [] [] (Damaged name) = ⊥
-IsOtherStop rollups labels Memory = Unit {0}
 IsOtherStop rollups labels _ = ⊥

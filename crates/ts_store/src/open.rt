@@ -56,7 +56,7 @@ fn read_found<W: Site>(alloc: Global, site: &mut W, found: &Folder) -> Result<Ve
 {
     match read_layers(alloc, site, found.layers.as_slice()) {
         Err(stop) => Err(stop),
-        Ok(layers) => match no_others(alloc, found) {
+        Ok(layers) => match no_others(found) {
             Err(stop) => Err(stop),
             Ok(()) => Ok(layers),
         },
@@ -64,7 +64,7 @@ fn read_found<W: Site>(alloc: Global, site: &mut W, found: &Folder) -> Result<Ve
 }
 
 /// A rollup or a label is at fault: the first rollup, or else the first label.
-fn no_others(alloc: Global, found: &Folder) -> Result<(), Stop>
+fn no_others(found: &Folder) -> Result<(), Stop>
     ensures ok { OnOk result ((found.now.rollups.items ≡ []) × (found.now.labels.items ≡ [])) }
     ensures err { IfErr result (IsOtherStop found.now.rollups.items found.now.labels.items) }
 {
@@ -72,10 +72,7 @@ fn no_others(alloc: Global, found: &Folder) -> Result<(), Stop>
         return Err(Stop::Damaged(rollup_file(*number)));
     }
     if let Some(label) = found.labels.first() {
-        return match label_file(alloc, label) {
-            Err(_) => Err(Stop::Memory),
-            Ok(name) => Err(Stop::Damaged(name)),
-        };
+        return Err(Stop::Damaged(label_file(label)));
     }
     Ok(())
 }
