@@ -11,7 +11,7 @@ abbrev pub chain_from : History → Option ℕ → List ℕ
 chain_from history None = []
 chain_from history (Some k) = chain_of history k
 
-chain_within-none : (most : ℕ) (history : History) → chain_within most history None ≡ []
+pub chain_within-none : (most : ℕ) (history : History) → chain_within most history None ≡ []
 chain_within-none zero history = refl
 chain_within-none (suc most) history = refl
 

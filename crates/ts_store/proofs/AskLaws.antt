@@ -1,5 +1,5 @@
 -- What a command that asks something of a layer is answered.
-use Rattle.std.proofs.Common.{◌≡◌, ℕ, List, filter, Option, Some, None, IsTrue, IfSome, refl, sym, ap, ◌∙◌, true≢false, subst}
+use Rattle.std.proofs.Common.{◌≡◌, ℕ, List, filter, Option, Some, None, IsTrue, sym, ap, ◌∙◌, true≢false, subst}
 use Rattle.std.specs.Bool.{if◌then◌else◌}
 use Rattle.std.specs.Option.{is_some}
 use Rattle.std.specs.List.{list_any}
@@ -13,7 +13,7 @@ use Rattle.ts_model.specs.Listing.{select}
 use Rattle.ts_model.specs.Order.{fact_cmp}
 use Rattle.ts_model.specs.Sets.{contains}
 use Rattle.ts_script.specs.declared.command.LayerRef.{LayerRef}
-use Rattle.ts_script.specs.declared.command.LayerRef.TheVariants.{Number, Last}
+use Rattle.ts_script.specs.declared.command.LayerRef.TheVariants.{Number}
 use Rattle.ts_script.specs.declared.command.Ref.TheVariants.{Layer as AtLayer}
 use Rattle.ts_script.specs.declared.command.Command.TheVariants as command
 use Rattle.ts_script.specs.declared.reply.Refusal.TheVariants as refusal
@@ -21,7 +21,7 @@ use Rattle.ts_store.specs.declared.loaded.Loaded.{Loaded}
 use Rattle.ts_store.specs.Doing.{IsNewest, state_of}
 use Rattle.ts_store.specs.Loaded.{IsLoaded, base_record, history_kept}
 use Rattle.ts_store.specs.State.{State}
-use Rattle.ts_store.specs.Step.{Stepped, does, refuses, resolve, answered, listing_text, has_text, step_of}
+use Rattle.ts_store.specs.Step.{does, refuses, resolve, answered, listing_text, has_text, step_of}
 use Rattle.ts_store.proofs.BaseLaws.{contains-base, listing-base}
 
 module _ (layers : List Loaded) (last : Option ℕ) where

@@ -1,9 +1,9 @@
 -- A base among the layers of a history: its chain, what it has, and its triples in birth order.
-use Rattle.std.proofs.Common.{◌≡◌, ℕ, zero, suc, ◌+◌, ◌<◌, ◌≤◌, Bool, true, false, ◌||◌, cond, List, [], ◌∷◌, length, get_or, reverse, Option, Some, None, unwrap_or, refl, sym, ap, ◌∙◌, subst, true≢false, arith}
+use Rattle.std.proofs.Common.{◌≡◌, ℕ, zero, suc, ◌+◌, ◌<◌, ◌≤◌, Bool, true, false, cond, List, [], ◌∷◌, length, get_or, reverse, Some, None, unwrap_or, refl, sym, ap, ◌∙◌, arith}
 use Rattle.std.specs.Option.{option_map, option_and_then}
 use Rattle.std.specs.declared.cmp.Ordering.{Ordering}
 use Rattle.std.specs.declared.cmp.Ordering.TheVariants.{Less, Equal, Greater}
-use Rattle.std.specs.Ordering.{nat_cmp, eq_by_cmp, is_eq, is_lt, on, ordering_then, ordering_reverse}
+use Rattle.std.specs.Ordering.{nat_cmp, eq_by_cmp, is_eq, is_lt, ordering_then, ordering_reverse}
 use Rattle.std.specs.Cmp.{IsTotalOrder, nat_cmp_total, on_total, then_total, Equal-is, tied_itself, eq_by_cmp_equiv}
 use Rattle.std.specs.Cmp.Lexicographic.{slice_cmp, nat_list_cmp_total}
 use Rattle.std.specs.List.{list_any}
@@ -17,9 +17,10 @@ use Rattle.ts_model.specs.Spelled.{Spelled}
 use Rattle.ts_model.specs.Fact.{Fact}
 use Rattle.ts_model.specs.Order.{kind_place, term_cmp, term_cmp-IsAntisymmetric, fact_cmp, fact_cmp_total, fact_cmp-IsAntisymmetric}
 use Rattle.ts_model.specs.Sets.{contains, members, from_list}
-use Rattle.ts_model.specs.History.{History, LayerRecord, additions_at, parent_at, set_or_none, chain_within, chain_of, content_of, content_at}
+use Rattle.ts_model.specs.History.{History, LayerRecord, parent_at, set_or_none, chain_within, chain_of, content_of, content_at}
 use Rattle.ts_model.specs.Birth.{birth_of, mentions, first_place}
 use Rattle.ts_model.specs.Listing.{birth_cmp, listing}
+use Rattle.ts_model.proofs.HistoryLaws.{chain_within-none}
 use Rattle.ts_model.proofs.SetLaws.{contains-from_list, contains-members, members_are}
 use Rattle.ts_store.specs.Loaded.{base_key_cmp, base_cmp, base_record}
 
@@ -89,10 +90,6 @@ found_nowhere facts fact i parts =
     ∙ ⊎_elim (λ before. ap is_eq (parts.0 k d (omega arith) before)) (λ after. ap is_eq (parts.1 k d after below)) (cases_lt k i)))
 
 -- ---- a base in a history
-
-chain_within-none : (most : ℕ) (history : History) → chain_within most history None ≡ []
-chain_within-none zero history = refl
-chain_within-none (suc most) history = refl
 
 module _ (history : History) (facts : List Fact) where
   -- the chain of a base is the base alone

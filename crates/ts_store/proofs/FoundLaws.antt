@@ -1,5 +1,5 @@
 -- What the files of a folder say of it.
-use Rattle.std.proofs.Common.{◌≡◌, ◌⊎◌, ℕ, zero, suc, ◌+◌, ◌<◌, ◌≤◌, Bool, true, false, cond, List, [], ◌∷◌, map, length, get_or, All, Option, Some, None, IsTrue, refl, sym, ap, ◌∙◌, subst, inl, inr, arith, true≢false}
+use Rattle.std.proofs.Common.{◌≡◌, ℕ, zero, suc, ◌<◌, true, false, cond, List, [], ◌∷◌, map, length, get_or, All, Some, None, refl, sym, ap, ◌∙◌, subst, inl, inr, arith, true≢false}
 use Rattle.std.specs.Prelude.{Contains}
 use Rattle.std.specs.declared.cmp.Ordering.{Ordering}
 use Rattle.std.specs.declared.cmp.Ordering.TheVariants.{Less, Equal, Greater}
@@ -17,9 +17,9 @@ use Rattle.ts_replace.specs.Scanned.{AreThoseOf, Rise}
 use Rattle.ts_site.specs.Folder.{Folder}
 use Rattle.ts_store.specs.declared.loaded.Loaded.{Loaded}
 use Rattle.ts_store.specs.declared.stop.Stop.{Stop}
-use Rattle.ts_store.specs.declared.stop.Stop.TheVariants.{Usage, Damaged, DiskFault, InputFault, OutputFault, InputLimit, Memory}
+use Rattle.ts_store.specs.declared.stop.Stop.TheVariants.{Damaged}
 use Rattle.ts_store.specs.Doing.{IsReadFrom, IsFirstOf, IsOtherStop}
-use Rattle.ts_store.specs.FolderSays.{FolderSays, IsBase, IsDamagedLayer, AreSoundLayers, HasRollup, HasLabel, IsFirstDamaged, file_of}
+use Rattle.ts_store.specs.FolderSays.{FolderSays, IsBase, IsDamagedLayer, AreSoundLayers, IsFirstDamaged, file_of}
 use Rattle.ts_store.specs.Loaded.{AreLoaded, IsLoaded, base_record, history_kept, loaded_entry}
 use Rattle.ts_store.proofs.LookupLaws.{get-at}
 use Rattle.ts_store.proofs.OpenLaws.{read_at, read_soundly}

@@ -1,20 +1,19 @@
 -- A base that a body makes: its number and its triples, and the folder with its file.
-use Rattle.std.proofs.Common.{◌≡◌, ◌≢◌, ℕ, ◌+◌, ◌^◌, ◌<◌, Bool, true, false, not, ◌&&◌, cond, nat_lt, List, [], ◌∷◌, ◌++◌, All, Option, Some, None, IsTrue, inl, inr, refl, sym, ap, ◌∙◌, subst, true≢false}
+use Rattle.std.proofs.Common.{◌≡◌, ◌≢◌, ℕ, ◌^◌, Bool, true, false, ◌&&◌, cond, nat_lt, List, [], All, Some, None, inl, inr, refl, sym, ap, ◌∙◌, subst, true≢false}
 use Rattle.std.proofs.lemmas.Bool.{lt-ltb}
 use Rattle.std.specs.Option.{option_map, is_some}
 use Rattle.std.specs.Ordering.{nat_cmp, eq_by_cmp, is_eq}
 use Rattle.std.specs.Cmp.{nat_cmp_total, Equal-is, tied_itself}
-use Rattle.std.specs.FinMap.{empty, get, insert, remove, contains_key, get-insert, keys, nat_cmp-IsAntisymmetric}
+use Rattle.std.specs.FinMap.{empty, get, insert, remove, get-insert, nat_cmp-IsAntisymmetric}
 use Rattle.ts_model.specs.declared.signed.SignedTriple.{SignedTriple}
 use Rattle.ts_model.specs.Fact.{Fact, IsTriple}
 use Rattle.ts_model.specs.History.{History, LayerRecord}
 use Rattle.ts_model.specs.NetChange.{net_additions, added}
-use Rattle.ts_model.specs.Names.{IsLabelName}
-use Rattle.ts_model.specs.Order.{fact_cmp, fact_cmp_total, fact_cmp-IsAntisymmetric}
-use Rattle.ts_model.specs.Sets.{SetOf, contains, members, difference, from_list}
+use Rattle.ts_model.specs.Order.{fact_cmp}
+use Rattle.ts_model.specs.Sets.{members, from_list}
 use Rattle.ts_model.specs.Totals.{term_count, predicate_count}
-use Rattle.ts_model.proofs.SetLaws.{same_set, contains-from_list, contains-members, IsStrictlySortedBy-members}
-use Rattle.ts_model.proofs.SetAlgebra.{contains-difference, contains-empty, members-from_rising}
+use Rattle.ts_model.proofs.FactSets.{members-empty, from_list-members, difference-empty}
+use Rattle.ts_model.proofs.SetLaws.{IsStrictlySortedBy-members}
 use Rattle.ts_plain.specs.PlainFile.{plain_file}
 use Rattle.ts_replace.specs.Names.{IsLayerNumber, layer_name, rollup_name, label_file_name}
 use Rattle.ts_replace.specs.Replaced.{new_tmp, replaced}
@@ -28,27 +27,9 @@ use Rattle.ts_store.specs.Loaded.{IsLoaded, base_record}
 use Rattle.ts_store.specs.Step.{base_of, next_number, are_counted, is_numbered}
 use Rattle.ts_store.proofs.NameLaws.{layer_name-tells, layer_is_not_new, rollup_is_not_layer, rollup_is_not_new, label_is_not_layer, label_is_not_new}
 
-and_true : (b : Bool) → (b && not false) ≡ b
-and_true true = refl
-and_true false = refl
-
-difference-empty : (set : SetOf fact_cmp) → difference set empty ≡ set
-difference-empty set = same_set fact_cmp fact_cmp_total fact_cmp-IsAntisymmetric (difference set empty) set (λ q.
-    contains-difference fact_cmp fact_cmp_total fact_cmp-IsAntisymmetric set empty q
-    ∙ ap (λ b. contains set q && not b) (contains-empty fact_cmp q)
-    ∙ and_true (contains set q))
-
 -- a base adds all that its body adds
 pub added-is : (body : List SignedTriple) → net_additions empty body ≡ added body
 added-is body = difference-empty (added body)
-
-pub members-empty : members (empty {X = Unit {0}} {R = fact_cmp}) ≡ []
-unfolding IsStrictlySortedBy
-members-empty = members-from_rising fact_cmp fact_cmp_total fact_cmp-IsAntisymmetric [] tt
-
-from_list-members : (set : SetOf fact_cmp) → from_list (members set) ≡ set
-from_list-members set = same_set fact_cmp fact_cmp_total fact_cmp-IsAntisymmetric (from_list (members set)) set (λ q.
-    contains-from_list fact_cmp fact_cmp_total (members set) q ∙ sym (contains-members fact_cmp set q))
 
 module _ (number : ℕ) (body : List SignedTriple) (additions : List Fact) (are : additions ≡ members (added body)) where
   pub additions_are : additions ≡ members (net_additions empty body)

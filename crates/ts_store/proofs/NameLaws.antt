@@ -1,5 +1,5 @@
 -- That the store's files have different names.
-use Rattle.std.proofs.Common.{◌≡◌, ◌≢◌, ℕ, ◌+◌, ◌<◌, ◌≤◌, List, [], ◌∷◌, ◌++◌, length, get_or, codes, refl, sym, ap, ◌∙◌, arith, length-append}
+use Rattle.std.proofs.Common.{◌≡◌, ◌≢◌, ℕ, ◌+◌, List, ◌++◌, length, get_or, codes, refl, ap, ◌∙◌, arith, length-append}
 use Rattle.std.proofs.lemmas.List.{append_cancel_right}
 use Rattle.ts_model.specs.LayerText.{layer_text}
 use Rattle.ts_model.proofs.Fronts.{same_fronts}

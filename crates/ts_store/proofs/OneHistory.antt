@@ -1,11 +1,10 @@
 -- What a folder tells it tells once: its history, which is well kept, or the first of its files at fault.
-use Rattle.std.proofs.Common.{◌≡◌, ℕ, zero, suc, ◌<◌, true, false, List, [], ◌++◌, All, Option, Some, None, IsTrue, IfSome, unwrap_or, refl, sym, ap, ◌∙◌, subst, inl, inr, arith, true≢false}
+use Rattle.std.proofs.Common.{◌≡◌, ℕ, ◌<◌, true, false, List, [], ◌++◌, All, Option, Some, None, IsTrue, IfSome, unwrap_or, refl, sym, ap, ◌∙◌, subst, inl, inr, arith, true≢false}
 use Rattle.std.specs.declared.cmp.Ordering.TheVariants.{Less, Equal, Greater}
 use Rattle.std.specs.Option.{is_some, option_map, option_and_then}
 use Rattle.std.specs.Ordering.{nat_cmp, eq_by_cmp, ordering_reverse}
 use Rattle.std.specs.Cmp.{nat_cmp_total, Equal-is}
 use Rattle.std.specs.Cmp.Lexicographic.{slice_cmp, nat_list_cmp_total}
-use Rattle.std.specs.List.Sorted.{IsStrictlySortedBy}
 use Rattle.std.specs.FinMap.{empty, get, contains_key, same_map, nat_cmp-IsAntisymmetric, slice_cmp-IsAntisymmetric}
 use Rattle.std.proofs.lemmas.Bool.{cases_lt}
 use Rattle.std.proofs.lemmas.List.{append_cancel_left, append_cancel_right}
@@ -13,10 +12,12 @@ use Rattle.std.proofs.lemmas.List.Elements.{All-contains}
 use Rattle.std.proofs.lemmas.Map.Views.{Contains-from_any}
 use Rattle.ts_model.specs.Fact.{Fact, IsTriple}
 use Rattle.ts_model.specs.History.{History, LayerRecord, IsWellKept, parent_at, chain_within, content_of, content_below}
-use Rattle.ts_model.specs.Order.{fact_cmp, fact_cmp_total, fact_cmp-IsAntisymmetric}
+use Rattle.ts_model.specs.Order.{fact_cmp, fact_cmp-IsAntisymmetric}
 use Rattle.ts_model.specs.Sets.{SetOf, contains, members, from_list}
-use Rattle.ts_model.proofs.SetLaws.{same_set, contains-from_list, contains-members}
-use Rattle.ts_model.proofs.SetAlgebra.{contains-empty, members-from_rising}
+use Rattle.ts_model.proofs.FactSets.{members-empty, from_list-members}
+use Rattle.ts_model.proofs.HistoryLaws.{chain_within-none}
+use Rattle.ts_model.proofs.SetLaws.{contains-members}
+use Rattle.ts_model.proofs.SetAlgebra.{contains-empty}
 use Rattle.ts_plain.specs.PlainFile.{plain_file, head_line, change_lines}
 use Rattle.ts_plain.specs.PlainReading.{HasNoSign}
 use Rattle.ts_plain.specs.PlainRules.{IsPlainLayer}
@@ -34,10 +35,6 @@ only_itself x y e = fact_cmp-IsAntisymmetric x y ((Equal-is (fact_cmp x y)).0 e)
 -- what holds of each member of a set holds of what the set contains
 all_contained : (P : Fact → Type 0) (set : SetOf fact_cmp) (fact : Fact) → All P (members set) → IsTrue (contains set fact) → P fact
 all_contained P set fact each has = All-contains P (members set) fact each (Contains-from_any only_itself fact (members set) (sym (contains-members fact_cmp set fact) ∙ has))
-
-chain_within-none : (most : ℕ) (history : History) → chain_within most history None ≡ []
-chain_within-none zero history = refl
-chain_within-none (suc most) history = refl
 
 -- nothing lies below a base
 content_below-base : (history : History) (k : ℕ) (layer : LayerRecord) → get history k ≡ Some layer → layer.parent ≡ None → content_below history k ≡ empty
@@ -58,15 +55,6 @@ well_kept folder history says k layer is =
     }
 
 -- ---- it tells one history
-
--- a set is the set of its members
-from_list-members : (set : SetOf fact_cmp) → from_list (members set) ≡ set
-from_list-members set = same_set fact_cmp fact_cmp_total fact_cmp-IsAntisymmetric (from_list (members set)) set (λ q.
-    contains-from_list fact_cmp fact_cmp_total (members set) q ∙ sym (contains-members fact_cmp set q))
-
-members-empty : members (empty {X = Unit {0}} {R = fact_cmp}) ≡ []
-unfolding IsStrictlySortedBy
-members-empty = members-from_rising fact_cmp fact_cmp_total fact_cmp-IsAntisymmetric [] tt
 
 -- the file of a base
 base_file : (k : ℕ) (layer : LayerRecord) → IsBase layer → file_of k layer ≡ plain_file k None (members layer.additions) []

@@ -1,17 +1,15 @@
 -- What is read of a folder.
-use Rattle.std.proofs.Common.{◌≡◌, ◌⊎◌, ℕ, zero, suc, ◌+◌, ◌^◌, ◌<◌, ◌≤◌, Bool, true, false, cond, List, [], ◌∷◌, ◌++◌, map, length, take, get_or, All, Option, Some, None, IsTrue, IfOk, IfErr, IfSome, Result, Ok, Err, unwrap_or, refl, sym, ap, ◌∙◌, subst, inl, inr, arith, append_assoc, true≢false}
+use Rattle.std.proofs.Common.{◌≡◌, ◌⊎◌, ℕ, zero, suc, ◌+◌, ◌^◌, ◌<◌, true, false, List, [], ◌∷◌, ◌++◌, map, length, take, get_or, All, Option, Some, None, IsTrue, IfOk, IfErr, Result, Ok, Err, unwrap_or, refl, sym, ap, ◌∙◌, subst, inl, inr, arith, append_assoc, true≢false}
 use Rattle.std.specs.Prelude.{Contains}
-use Rattle.std.specs.Option.{is_some, option_map}
-use Rattle.std.specs.Ordering.{nat_cmp, eq_by_cmp}
-use Rattle.std.specs.Cmp.{nat_cmp_total, Equal-is}
+use Rattle.std.specs.Option.{is_some}
+use Rattle.std.specs.Ordering.{nat_cmp}
 use Rattle.std.specs.List.Sorted.{IsStrictlySortedBy, IsStrictlyIncreasing}
-use Rattle.std.specs.FinMap.{empty, get, contains_key, find, get-from_entries, nat_cmp-IsAntisymmetric}
+use Rattle.std.specs.FinMap.{empty, get, contains_key}
 use Rattle.std.proofs.lemmas.Bool.{cases_lt}
 use Rattle.std.proofs.lemmas.List.{map-append, take_more, get_or-map, get_or-take, length-map, length-take-le}
 use Rattle.std.proofs.lemmas.List.Elements.{All-contains}
 use Rattle.std.proofs.lemmas.Map.Keys.{below_from_sorted, sorted_from_strictly_increasing}
 use Rattle.ts_model.specs.Fact.{Fact, IsTriple}
-use Rattle.ts_model.specs.History.{History, LayerRecord}
 use Rattle.ts_model.specs.Order.{fact_cmp, fact_cmp_total, fact_cmp-IsAntisymmetric}
 use Rattle.ts_model.specs.Sets.{members, from_list}
 use Rattle.ts_model.proofs.SetAlgebra.{members-from_rising}
@@ -19,17 +17,15 @@ use Rattle.ts_plain.specs.PlainFile.{plain_file, head_line, change_lines}
 use Rattle.ts_plain.specs.PlainRules.{IsPlainLayer}
 use Rattle.ts_plain.proofs.HeadLaws.{head_once}
 use Rattle.ts_plain.proofs.RuleLaws.{KeepsPlainRules-base}
-use Rattle.ts_replace.specs.Names.{IsLayerNumber, layer_name, rollup_name, label_file_name}
-use Rattle.ts_replace.specs.Scanned.{AreThoseOf, Rise}
+use Rattle.ts_replace.specs.Names.{IsLayerNumber, layer_name}
 use Rattle.ts_site.specs.Folder.{Folder}
 use Rattle.ts_store.specs.declared.loaded.Loaded.{Loaded}
 use Rattle.ts_store.specs.declared.stop.Stop.{Stop}
 use Rattle.ts_store.specs.declared.stop.Stop.TheVariants.{Damaged, Memory}
 use Rattle.ts_store.specs.Doing.{IsReadFrom, IsFirstOf}
-use Rattle.ts_store.specs.FolderSays.{FolderSays, IsBase, IsBaseFile, IsDamagedLayer, file_of}
-use Rattle.ts_store.specs.Loaded.{AreLoaded, IsLoaded, base_record, history_kept, loaded_entry}
-use Rattle.ts_store.proofs.LookupLaws.{get-at}
-use Rattle.ts_store.proofs.MadeLaws.{members-empty}
+use Rattle.ts_store.specs.FolderSays.{IsBaseFile, IsDamagedLayer, file_of}
+use Rattle.ts_store.specs.Loaded.{AreLoaded, IsLoaded, base_record}
+use Rattle.ts_model.proofs.FactSets.{members-empty}
 
 -- ---- the bytes of a file
 

@@ -1,15 +1,13 @@
 -- The state and the folder once a base was made.
-use Rattle.std.proofs.Common.{◌≡◌, ◌⊎◌, ℕ, Bool, true, false, cond, List, [], ◌∷◌, ◌++◌, Option, Some, None, IsTrue, IfSome, IfOk, IfErr, Result, Ok, Err, MatchResult, refl, sym, ap, ◌∙◌, subst, inl, inr}
+use Rattle.std.proofs.Common.{◌≡◌, ◌⊎◌, ℕ, Bool, true, cond, List, Option, Some, IfOk, IfErr, Result, Ok, Err, MatchResult, sym, ap, ◌∙◌, subst, inl, inr}
 use Rattle.std.specs.Option.{is_some}
-use Rattle.std.specs.Ordering.{nat_cmp, eq_by_cmp, is_eq}
+use Rattle.std.specs.Ordering.{is_eq}
 use Rattle.std.specs.Cmp.{nat_cmp_total, tied_itself}
-use Rattle.std.specs.FinMap.{empty, insert, contains_key, get, get-insert}
+use Rattle.std.specs.FinMap.{insert, contains_key, get, get-insert}
 use Rattle.ts_model.specs.declared.signed.SignedTriple.{SignedTriple}
-use Rattle.ts_model.specs.NetChange.{net_additions}
-use Rattle.ts_model.specs.Sets.{members}
 use Rattle.ts_replace.specs.Names.{layer_name}
 use Rattle.ts_replace.specs.Replaced.{replaced}
-use Rattle.ts_script.specs.Replies.{reply_text, refusal_text}
+use Rattle.ts_script.specs.Replies.{reply_text}
 use Rattle.ts_script.specs.declared.command.Command.TheVariants as command
 use Rattle.ts_script.specs.declared.reply.Reply.TheVariants as reply
 use Rattle.ts_script.specs.declared.reply.Refusal.TheVariants as refusal
@@ -24,8 +22,7 @@ use Rattle.ts_store.specs.Doing.{IsMade, IsNewest, AddsBase, KeepsAll, state_of}
 use Rattle.ts_store.specs.FolderSays.{FolderSays}
 use Rattle.ts_store.specs.Loaded.{AreLoaded, history_kept}
 use Rattle.ts_store.specs.Stands.{LeavesHistory}
-use Rattle.ts_store.specs.State.{State}
-use Rattle.ts_store.specs.Step.{Stepped, does, refuses, with_layer, base_of, next_number, is_numbered, step_of}
+use Rattle.ts_store.specs.Step.{Stepped, does, refuses, with_layer, base_of, next_number, step_of}
 use Rattle.ts_store.specs.Stops.{LeavesFolder, kind_of}
 use Rattle.ts_store.proofs.NumberLaws.{AreLoaded-push, history_kept-push}
 use Rattle.ts_store.proofs.MadeLaws.{record_is, says_made, says_any, numbered}

@@ -1,12 +1,12 @@
 -- What a step keeps of a history and of the folder that stands for it.
-use Rattle.std.proofs.Common.{◌≡◌, ℕ, ◌<◌, ◌^◌, Bool, true, false, ◌&&◌, true≢false, nat_lt, flat_map, cond, List, [], ◌∷◌, ◌++◌, Option, Some, None, Result, Ok, Err, inl, inr, refl, sym, ap, ◌∙◌, subst, append-nil}
+use Rattle.std.proofs.Common.{◌≡◌, ℕ, ◌<◌, ◌^◌, Bool, true, false, ◌&&◌, true≢false, nat_lt, flat_map, cond, List, ◌∷◌, Option, Some, None, Result, Ok, Err, inl, inr, refl, sym, ap, ◌∙◌, subst, append-nil}
 use Rattle.std.proofs.lemmas.Bool.{ltb-true}
 use Rattle.std.specs.Bool.{if◌then◌else◌}
 use Rattle.std.specs.Option.{option_map}
 use Rattle.std.specs.Ordering.{nat_cmp, eq_by_cmp}
 use Rattle.std.specs.Cmp.{nat_cmp_total}
 use Rattle.std.specs.FinMap.{empty, get, insert, get-insert}
-use Rattle.ts_model.specs.ChainTotals.{added_along, terms_at, predicates_at}
+use Rattle.ts_model.specs.ChainTotals.{added_along}
 use Rattle.ts_model.specs.History.{History, LayerRecord, IsWellKept, set_or_none, additions_at}
 use Rattle.ts_model.specs.NetChange.{net_additions}
 use Rattle.ts_model.specs.Sets.{members}

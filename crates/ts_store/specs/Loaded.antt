@@ -1,5 +1,5 @@
 -- What a session keeps of its layers.
-use Rattle.std.specs.Prelude.{◌≡◌, ℕ, List, [], map, All, None}
+use Rattle.std.specs.Prelude.{ℕ, List, map, All, None}
 use Rattle.std.specs.declared.cmp.Ordering.{Ordering}
 use Rattle.std.specs.Ordering.{nat_cmp, on, then_cmp}
 use Rattle.std.specs.Cmp.Lexicographic.{slice_cmp}

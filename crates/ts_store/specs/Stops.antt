@@ -1,5 +1,5 @@
 -- Why a session stops, and what it then leaves.
-use Rattle.std.specs.Prelude.{◌≡◌, ◌⊎◌, ℕ, ◌<◌, ◌≤◌, ◌^◌, Bool, true, false, if◌then◌else◌, List, [], ◌++◌, take, length, IsTrue, Option, None, Some, Result, Ok, Err, IfErr, MatchResult}
+use Rattle.std.specs.Prelude.{◌≡◌, ◌⊎◌, ℕ, ◌<◌, ◌≤◌, ◌^◌, Bool, true, false, if◌then◌else◌, List, [], ◌++◌, take, length, IsTrue, Option, None, Some, Result, Ok, Err, MatchResult}
 use Rattle.std.specs.FinMap.{empty}
 use Rattle.ts_model.specs.NetChange.{net_additions}
 use Rattle.ts_model.specs.Sets.{members}
@@ -12,7 +12,7 @@ use Rattle.ts_script.specs.declared.command.Command.TheVariants as command
 use Rattle.ts_site.specs.Faults.{Rose}
 use Rattle.ts_site.specs.Folder.{Folder, IsAnyAt}
 use Rattle.ts_store.specs.declared.stop.Stop.{Stop}
-use Rattle.ts_store.specs.declared.stop.Stop.TheVariants.{Usage, Damaged, DiskFault, InputFault, OutputFault, InputLimit, Memory}
+use Rattle.ts_store.specs.declared.stop.Stop.TheVariants.{Damaged, DiskFault, OutputFault, Memory}
 use Rattle.ts_store.specs.declared.stop.Kind.{Kind}
 use Rattle.ts_store.specs.declared.stop.Kind.TheVariants.{Done, Refused}
 use Rattle.ts_store.specs.State.{State}

@@ -1,4 +1,4 @@
-use Rattle.std.proofs.Common.{Bool, ℕ, List, filter, sym, ap, subst, ◌∙◌}
+use Rattle.std.proofs.Common.{List, filter, sym, ap, subst, ◌∙◌}
 use Rattle.ts_model.specs.Fact.{Fact}
 use Rattle.ts_model.specs.Fits.{fits}
 use Rattle.ts_site.specs.Telling.{Tells}

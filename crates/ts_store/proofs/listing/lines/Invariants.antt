@@ -1,4 +1,4 @@
-use Rattle.std.proofs.Common.{◌≡◌, ℕ, filter, flat_map, length, take, IsTrue}
+use Rattle.std.proofs.Common.{◌≡◌, filter, flat_map, length, take}
 use Rattle.ts_model.specs.Fits.{fits}
 use Rattle.ts_nt.specs.TripleLine.{triple_line}
 use Rattle.ts_site.specs.Output.{IsSameDisk}

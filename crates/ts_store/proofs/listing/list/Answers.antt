@@ -1,4 +1,4 @@
-use Rattle.std.proofs.Common.{◌∙◌, ◌++◌, codes, decimal, filter, flat_map, length, subst, sym, ℕ}
+use Rattle.std.proofs.Common.{◌∙◌, ◌++◌, codes, decimal, filter, flat_map, length}
 use Rattle.ts_model.specs.Fits.{fits}
 use Rattle.ts_nt.specs.TripleLine.{triple_line}
 use Rattle.ts_script.specs.Replies.{reply_text}

@@ -1,4 +1,4 @@
-use Rattle.std.proofs.Common.{ap, inr, sym}
+use Rattle.std.proofs.Common.{ap, inr}
 use Rattle.ts_store.specs.declared.stop.Stop.TheVariants.{Damaged}
 use Rattle.ts_store.proofs.OpenLaws.{no_base, child_is_no_base, base_file}
 use Rattle.ts_store.proofs.open.load_file.Goals as goal

@@ -1,4 +1,4 @@
-use Rattle.std.proofs.Common.{◌∙◌, ℕ, List, All, IsTrue, get_or, map, sym, subst}
+use Rattle.std.proofs.Common.{◌∙◌, ℕ, List, All, IsTrue, get_or, sym, subst}
 use Rattle.std.specs.FinMap.{contains_key}
 use Rattle.std.proofs.lemmas.List.Elements.{Contains-get_or}
 use Rattle.ts_replace.specs.Names.{layer_name}

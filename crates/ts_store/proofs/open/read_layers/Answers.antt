@@ -1,4 +1,4 @@
-use Rattle.std.proofs.Common.{◌++◌, ◌∷◌, [], ◌∙◌, List, All, get_or, take, refl, sym, ap, subst, rules, arith}
+use Rattle.std.proofs.Common.{◌∙◌, All, get_or, sym, subst, rules, arith}
 use Rattle.std.proofs.lemmas.List.{take_all}
 use Rattle.std.proofs.lemmas.List.Elements.{All-push}
 use Rattle.ts_site.specs.Folder.{Folder}
