@@ -1,12 +1,12 @@
 -- The causes of the stops of a run that read its command.
-use Rattle.std.proofs.Common.{◌≡◌, ◌⊎◌, ℕ, ◌^◌, ◌<◌, ◌≤◌, Bool, true, List, length, Option, None, Some, Result, Ok, Err, inl, inr, refl, sym, ap, ◌∙◌, subst, arith}
+use Rattle.std.proofs.Common.{◌≡◌, ◌⊎◌, ℕ, ◌^◌, ◌<◌, Bool, true, List, length, Some, Result, Ok, Err, inl, inr, sym, ap, ◌∙◌, subst, arith}
 use Rattle.ts_script.specs.Words.{IsNoCommand}
 use Rattle.ts_store.specs.declared.stop.Kind.{Kind}
 use Rattle.ts_store.specs.declared.stop.Stop.{Stop}
 use Rattle.ts_store.specs.declared.stop.Stop.TheVariants.{Usage, InputFault, InputLimit, Memory}
 use Rattle.ts_cli.specs.declared.outcome.Outcome.{Outcome}
 use Rattle.ts_cli.specs.Causes.{Causes, LimitCause, UsageCause}
-use Rattle.ts_cli.specs.Outcomes.{IsAfterReading, IsReadingStop, outcome_of, stop_of}
+use Rattle.ts_cli.specs.Outcomes.{IsReadingStop, outcome_of, stop_of}
 
 -- a command that was read is no stop
 pub read_no_stop : {C : Type 0} (command : C) → (Ok command ≡ Err Usage) ⊎ (Ok command ≡ Err Memory) → ⊥

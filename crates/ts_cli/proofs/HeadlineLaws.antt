@@ -1,18 +1,15 @@
 -- The headline from how a run ends: a folder tells one history, and words and lines are one command.
-use Rattle.std.proofs.Common.{◌≡◌, ◌⊎◌, ℕ, ◌+◌, Bool, true, false, ◌||◌, cond, List, [], ◌∷◌, ◌++◌, length, take, IsTrue, Option, None, Some, Result, Ok, Err, inl, inr, refl, sym, ap, ◌∙◌, subst, append-nil}
+use Rattle.std.proofs.Common.{◌≡◌, ◌⊎◌, ℕ, Bool, true, false, ◌||◌, cond, List, [], ◌∷◌, ◌++◌, IsTrue, Some, Result, Ok, Err, inl, inr, refl, sym, ap, ◌∙◌, subst, append-nil}
 use Rattle.ts_model.specs.History.{History}
 use Rattle.ts_script.specs.Lines.{lines_of}
 use Rattle.ts_script.specs.Words.{IsCommand}
 use Rattle.ts_script.specs.declared.command.Command.{Command}
 use Rattle.ts_script.proofs.CommandLaws.{same_command}
 use Rattle.ts_store.specs.declared.stop.Kind.{Kind}
-use Rattle.ts_store.specs.declared.stop.Kind.TheVariants.{Done, Refused}
 use Rattle.ts_store.specs.declared.stop.Stop.{Stop}
 use Rattle.ts_store.specs.declared.stop.Stop.TheVariants.{Usage, Damaged, DiskFault, InputFault, OutputFault, InputLimit, Memory}
-use Rattle.ts_store.specs.FolderSays.{FolderSays, IsFirstDamaged}
+use Rattle.ts_store.specs.FolderSays.{IsFirstDamaged}
 use Rattle.ts_store.specs.Stands.{Stands}
-use Rattle.ts_store.specs.State.{State}
-use Rattle.ts_store.specs.Steps.{after, answers, answer_at, any_refused}
 use Rattle.ts_store.specs.Stops.{kind_of}
 use Rattle.ts_store.proofs.OneHistory.{same_history, not_damaged, same_damaged}
 use Rattle.ts_cli.specs.Causes.{DamagedCause, IsBeforeOpening}

@@ -1,10 +1,10 @@
 -- What each stop of a run comes from.
-use Rattle.std.specs.Prelude.{◌≡◌, ◌⊎◌, ℕ, ◌^◌, ◌≤◌, Bool, true, List, drop, length, Option, None, Some}
+use Rattle.std.specs.Prelude.{◌≡◌, ◌⊎◌, ℕ, ◌^◌, ◌≤◌, Bool, true, List, drop, length, Option, Some}
 use Rattle.ts_script.specs.Words.{IsNoCommand}
 use Rattle.ts_site.specs.Faults.{Rose}
 use Rattle.ts_site.specs.Folder.{Folder}
 use Rattle.ts_store.specs.declared.stop.Stop.{Stop}
-use Rattle.ts_store.specs.declared.stop.Stop.TheVariants.{Usage, Damaged, DiskFault, InputFault, OutputFault, InputLimit, Memory}
+use Rattle.ts_store.specs.declared.stop.Stop.TheVariants.{Usage, Damaged, DiskFault, InputFault, InputLimit, Memory}
 use Rattle.ts_store.specs.FolderSays.{IsFirstDamaged}
 use Rattle.ts_cli.specs.Outcomes.{IsAfterReading}
 

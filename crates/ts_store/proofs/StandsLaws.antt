@@ -88,10 +88,10 @@ module _ (state : State) (counted : AreCounted state.history) (folder : Folder) 
       by_test false e told = counted
 
   next_stands : (asked : Command) → FolderSays after (step_of state asked).state.history → Stands after (step_of state asked).state.history
-  next_stands asked told = record { kept = well_kept after (step_of state asked).state.history told; counted = counted_next asked told; says = told; }
+  next_stands asked told = record { kept = well_kept after (step_of state asked).state.history told; counted = counted_next asked told; says = told }
 
   same_stands : FolderSays after state.history → Stands after state.history
-  same_stands told = record { kept = well_kept after state.history told; counted = counted; says = told; }
+  same_stands told = record { kept = well_kept after state.history told; counted = counted; says = told }
 
   -- a folder that stood for the history stands for what a step leaves of it
   pub stands_after : (result : Result Kind Stop) (asked : Command) → LeavesHistory (FolderSays after) result state.history (step_of state asked).state.history → LeavesHistory (Stands after) result state.history (step_of state asked).state.history

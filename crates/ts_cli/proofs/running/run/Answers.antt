@@ -1,9 +1,9 @@
-use Rattle.std.proofs.Common.{◌≡◌, List, ℕ, map, string_bytes, IsTrue, Result, refl, sym, ap, ◌∙◌, subst, Some, Ok, Err, inr, true≢false}
+use Rattle.std.proofs.Common.{◌≡◌, map, string_bytes, Result, refl, sym, ap, ◌∙◌, subst, Some, Ok, Err, inr}
 use Rattle.ts_store.specs.declared.stop.Kind.{Kind}
 use Rattle.ts_store.specs.declared.stop.Stop.{Stop}
 use Rattle.ts_cli.specs.Ends.{Asks, Ends}
 use Rattle.ts_cli.specs.Scene.{Scene, scene_of}
-use Rattle.ts_cli.proofs.EndsLemmas.{calm_rose, ends_asked, ends_reading, only_memory, same_stop, stop_is}
+use Rattle.ts_cli.proofs.EndsLemmas.{calm_rose, ends_asked, ends_reading, only_memory, stop_is}
 use Rattle.ts_store.specs.declared.stop.Stop.TheVariants.{Damaged, DiskFault, OutputFault}
 use Rattle.ts_cli.specs.Outcomes.{IsReadingStop, stop_of}
 use Rattle.ts_cli.proofs.CauseLaws.{fault_is, input_read, limit_read, read_no_stop, some_is, usage_read}
