@@ -1,41 +1,78 @@
 -- A text that is said piece by piece.
-use Rattle.std.proofs.Common.{◌≡◌, ℕ, ◌+◌, ◌<◌, ◌≤◌, Bool, true, false, cond, List, [], ◌∷◌, ◌++◌, filter, flat_map, length, take, drop, get_or, Result, Ok, Err, IfErr, refl, sym, ap, subst, ◌∙◌, arith, append_assoc, append-nil}
+use Rattle.std.proofs.Common.{◌≡◌, ℕ, ◌+◌, ◌<◌, ◌≤◌, Bool, true, false, cond, List, [], ◌∷◌, ◌++◌, filter, flat_map, length, take, drop, get_or, Result, Ok, Err, IfErr, inl, inr, refl, sym, ap, subst, ◌∙◌, arith, append_assoc, append-nil}
 use Rattle.std.proofs.lemmas.List.{take-append-drop, length-append, length-drop, length-take-le}
 use Rattle.std.proofs.lemmas.List.Elements.{filter_more, filter-append}
 use Rattle.std.proofs.lemmas.List.Concat.{flat_map-append}
 use Rattle.std.proofs.Math.Seq.{take-append_seam}
+use Rattle.ts_model.specs.Fact.{Fact}
+use Rattle.ts_nt.specs.TripleLine.{triple_line}
 use Rattle.ts_script.specs.Replies.{line}
 use Rattle.ts_store.specs.declared.stop.Stop.{Stop}
 use Rattle.ts_store.specs.declared.stop.Kind.{Kind}
 use Rattle.ts_store.specs.declared.stop.Stop.TheVariants.{Usage, Damaged, DiskFault, InputFault, OutputFault, InputLimit, Memory}
-use Rattle.ts_store.specs.Doing.{IsAskingStop, SaysFront}
-use Rattle.ts_store.specs.Stops.{LeavesTold}
+use Rattle.ts_store.specs.Doing.{IsAskingStop, IsSaidAt, SaysFront}
+use Rattle.ts_store.specs.Stops.{AreLines, LeavesTold}
+
+-- lines behind lines are lines
+lines_append : (a b : List ℕ) → AreLines a → AreLines b → AreLines (a ++ b)
+lines_append a b one (inl none) = subst AreLines (sym (ap (λ l. a ++ l) none ∙ append-nil a)) one
+lines_append a b one (inr (front, is)) = inr (a ++ front, ap (λ l. a ++ l) is ∙ sym (append_assoc a front (10 ∷ [])))
+
+said_append : (stop : Stop) (a b : List ℕ) → AreLines a → IsSaidAt stop b → IsSaidAt stop (a ++ b)
+said_append OutputFault a b one other = tt
+said_append Usage a b one other = lines_append a b one other
+said_append (Damaged name) a b one other = lines_append a b one other
+said_append DiskFault a b one other = lines_append a b one other
+said_append InputFault a b one other = lines_append a b one other
+said_append InputLimit a b one other = lines_append a b one other
+said_append Memory a b one other = lines_append a b one other
+
+-- a triple's line ends with a line
+pub triple_lines : (before : List ℕ) (fact : Fact) → AreLines (before ++ triple_line fact)
+triple_lines before fact = lines_end before (triple_line fact) (spelled, append_assoc _ (0x20 ∷ 0x2E ∷ []) (10 ∷ []))
+  where
+    spelled : List ℕ
+    spelled = (fact.subject.spelling ++ 0x20 ∷ [] ++ fact.predicate.spelling ++ 0x20 ∷ [] ++ fact.object.spelling) ++ 0x20 ∷ 0x2E ∷ []
+
+    lines_end : (before text : List ℕ) → (front : List ℕ) × (front ++ 10 ∷ [] ≡ text) → AreLines (before ++ text)
+    lines_end before text (front, is) = inr (before ++ front, ap (λ l. before ++ l) (sym is) ∙ sym (append_assoc before front (10 ∷ [])))
+
+module _ (Is : List ℕ → Type 0) where
+  -- a front of a piece was said
+  pub front_taken : (piece old new : List ℕ) (n : ℕ) → Is (take n piece) → new ≡ old ++ take n piece → SaysFront Is piece old new (drop n piece)
+  front_taken piece old new n is e = (take n piece, is, e, take-append-drop n piece)
+
+  -- more of a text was said
+  pub front_more : ((a b : List ℕ) → AreLines a → Is b → Is (a ++ b)) → (text line old between new rest left : List ℕ)
+      → SaysFront AreLines text old between left → SaysFront Is (left ++ line) between new rest → SaysFront Is (text ++ line) old new rest
+  front_more closed text line old between new rest left (one, lines, is, whole) (other, lines_other, is_other, whole_other) = (
+    one ++ other,
+    closed one other lines lines_other,
+    is_other ∙ ap (λ l. l ++ other) is ∙ append_assoc old one other,
+    append_assoc one other rest ∙ ap (λ l. one ++ l) whole_other ∙ sym (append_assoc one left line) ∙ ap (λ l. l ++ line) whole,
+  )
+
+  -- a front of a text is one of a longer text
+  pub front_longer : (text more longer old new rest : List ℕ) → longer ≡ text ++ more → SaysFront Is text old new rest → SaysFront Is longer old new (rest ++ more)
+  front_longer text more longer old new rest e (said, lines, is, whole) =
+      (said, lines, is, sym (append_assoc said rest more) ∙ ap (λ l. l ++ more) whole ∙ sym e)
+
+  -- and so many bytes of it
+  pub front_length : (text old new rest : List ℕ) → SaysFront Is text old new rest → (n : ℕ) × Is (take n text) × (new ≡ old ++ take n text)
+  front_length text old new rest (said, lines, is, whole) =
+      let front : said ≡ take (length said) text = sym (take-append_seam said rest) ∙ ap (take (length said)) whole in
+      (length said, subst Is front lines, is ∙ ap (λ l. old ++ l) front)
+
+  -- fewer than all, where something is left
+  pub front_shorter : (text old new rest : List ℕ) → 0 < length rest → SaysFront Is text old new rest → (n : ℕ) × (n < length text) × Is (take n text) × (new ≡ old ++ take n text)
+  front_shorter text old new rest longer (said, lines, is, whole) =
+      let whole_length = ap length whole in
+      let front : said ≡ take (length said) text = sym (take-append_seam said rest) ∙ ap (take (length said)) whole in
+      (length said, omega (arith, whole_length, length-append said rest), subst Is front lines, is ∙ ap (λ l. old ++ l) front)
 
 -- nothing was said yet
-pub front_none : (text old : List ℕ) → SaysFront text old old text
-front_none text old = ([], sym (append-nil old), refl)
-
--- a front of a piece was said
-pub front_taken : (piece old new : List ℕ) (n : ℕ) → new ≡ old ++ take n piece → SaysFront piece old new (drop n piece)
-front_taken piece old new n e = (take n piece, e, take-append-drop n piece)
-
--- more of a text was said
-pub front_more : (text line old between new rest left : List ℕ) → SaysFront text old between left → SaysFront (left ++ line) between new rest → SaysFront (text ++ line) old new rest
-front_more text line old between new rest left (one, is, whole) (other, is_other, whole_other) = (
-  one ++ other,
-  is_other ∙ ap (λ l. l ++ other) is ∙ append_assoc old one other,
-  append_assoc one other rest ∙ ap (λ l. one ++ l) whole_other ∙ sym (append_assoc one left line) ∙ ap (λ l. l ++ line) whole,
-)
-
--- a front of a text is one of a longer text
-pub front_longer : (text more longer old new rest : List ℕ) → longer ≡ text ++ more → SaysFront text old new rest → SaysFront longer old new (rest ++ more)
-front_longer text more longer old new rest e (said, is, whole) =
-    (said, is, sym (append_assoc said rest more) ∙ ap (λ l. l ++ more) whole ∙ sym e)
-
--- and so many bytes of it
-pub front_length : (text old new rest : List ℕ) → SaysFront text old new rest → (n : ℕ) × (new ≡ old ++ take n text)
-front_length text old new rest (said, is, whole) =
-    (length said, is ∙ ap (λ l. old ++ l) (sym (take-append_seam said rest) ∙ ap (take (length said)) whole))
+pub front_none : (text old : List ℕ) → SaysFront AreLines text old old text
+front_none text old = ([], inl refl, sym (append-nil old), refl)
 
 length-filter : {A : Type 0} (p : A → Bool) (xs : List A) → length (filter p xs) ≤ length xs
 length-filter p [] = omega arith
@@ -71,33 +108,32 @@ module _ {A : Type 0} (p : A → Bool) (f : A → List ℕ) (xs : List A) (i : �
     pub count_same : p x ≡ false → length (filter p (take (i + 1) xs)) ≡ length (filter p (take i xs))
     count_same e = ap length (more false e ∙ append-nil (filter p (take i xs)))
 
-    module _ (e : p x ≡ true) (old between new piece left : List ℕ) (before : SaysFront (text_of i) old between piece) (now : SaysFront (piece ++ f x) between new left) where
+    module _ (e : p x ≡ true) (old between new piece left : List ℕ) (before : SaysFront AreLines (text_of i) old between piece) where
+      more_of : (Is : List ℕ → Type 0) → ((a b : List ℕ) → AreLines a → Is b → Is (a ++ b)) → SaysFront Is (piece ++ f x) between new left → SaysFront Is (text_of (i + 1)) old new left
+      more_of Is closed now = subst (λ text. SaysFront Is text old new left) (sym (text_more e)) (front_more Is closed (text_of i) (f x) old between new left piece before now)
+
       -- one line more
-      pub lines_more : SaysFront (text_of (i + 1)) old new left
-      lines_more = subst (λ text. SaysFront text old new left) (sym (text_more e)) (front_more (text_of i) (f x) old between new left piece before now)
+      pub lines_more : SaysFront AreLines (piece ++ f x) between new left → SaysFront AreLines (text_of (i + 1)) old new left
+      lines_more = more_of AreLines lines_append
 
       -- and there it ended
-      pub lines_ended : (rest : List ℕ) × SaysFront (flat_map f (filter p xs)) old new rest
-      lines_ended =
-          let line : flat_map f (filter p xs) ≡ text_of (i + 1) ++ flat_map f (filter p (drop (i + 1) xs)) = text_rest_at (i + 1) in
-          (left ++ flat_map f (filter p (drop (i + 1) xs)), front_longer (text_of (i + 1)) (flat_map f (filter p (drop (i + 1) xs))) (flat_map f (filter p xs)) old new left line lines_more)
-
--- a front that lacks some of the text has fewer bytes
-front_shorter : (text old new rest : List ℕ) → 0 < length rest → SaysFront text old new rest → (n : ℕ) × (n < length text) × (new ≡ old ++ take n text)
-unfolding front_length
-front_shorter text old new rest longer (said, is, whole) =
-    let whole_length = ap length whole in
-    (length said, omega (arith, whole_length, length-append said rest), (front_length text old new rest (said, is, whole)).1)
+      pub lines_ended : (stop : Stop) → SaysFront (IsSaidAt stop) (piece ++ f x) between new left → (rest : List ℕ) × SaysFront (IsSaidAt stop) (flat_map f (filter p xs)) old new rest
+      lines_ended stop now =
+          let line : flat_map f (filter p xs) ≡ text_of (i + 1) ++ flat_map f (filter p (drop (i + 1) xs)) = text_rest_at (i + 1) in (
+            left ++ flat_map f (filter p (drop (i + 1) xs)),
+            front_longer (IsSaidAt stop) (text_of (i + 1)) (flat_map f (filter p (drop (i + 1) xs))) (flat_map f (filter p xs)) old new left line (more_of (IsSaidAt stop) (said_append stop) now),
+          )
 
 -- a line has a byte at least
 pub line_is_longer : (text : List ℕ) → 0 < length (line text)
 line_is_longer text = omega (arith, length-append text (10 ∷ []))
 
 -- a front of the lines is one of the whole reply
-pub list_ended : (stop : Stop) (text total old new : List ℕ) → IsAskingStop stop → 0 < length total → (left : List ℕ) × SaysFront text old new left → LeavesTold (Err stop) (text ++ total) old new
-list_ended OutputFault text total old new why longer (left, said) = front_length (text ++ total) old new (left ++ total) (front_longer text total (text ++ total) old new left refl said)
+pub list_ended : (stop : Stop) (text total old new : List ℕ) → IsAskingStop stop → 0 < length total → (left : List ℕ) × SaysFront (IsSaidAt stop) text old new left → LeavesTold (Err stop) (text ++ total) old new
+list_ended OutputFault text total old new why longer (left, said) =
+    let taken = front_length (IsSaidAt OutputFault) (text ++ total) old new (left ++ total) (front_longer (IsSaidAt OutputFault) text total (text ++ total) old new left refl said) in (taken.0, taken.2)
 list_ended Memory text total old new why longer (left, said) =
-    front_shorter (text ++ total) old new (left ++ total) (omega (arith, length-append left total)) (front_longer text total (text ++ total) old new left refl said)
+    front_shorter AreLines (text ++ total) old new (left ++ total) (omega (arith, length-append left total)) (front_longer AreLines text total (text ++ total) old new left refl said)
 list_ended Usage text total old new why longer said = absurd why
 list_ended (Damaged name) text total old new why longer said = absurd why
 list_ended DiskFault text total old new why longer said = absurd why
@@ -105,14 +141,15 @@ list_ended InputFault text total old new why longer said = absurd why
 list_ended InputLimit text total old new why longer said = absurd why
 
 -- what was left of the lines is said with the last one
-pub list_done : (result : Result Kind Stop) (text total old between new piece : List ℕ) → IfErr result IsAskingStop → SaysFront text old between piece → LeavesTold result (piece ++ total) between new → LeavesTold result (text ++ total) old new
-list_done (Ok kind) text total old between new piece why (said, is, whole) told =
+pub list_done : (result : Result Kind Stop) (text total old between new piece : List ℕ) → IfErr result IsAskingStop → SaysFront AreLines text old between piece → LeavesTold result (piece ++ total) between new → LeavesTold result (text ++ total) old new
+list_done (Ok kind) text total old between new piece why (said, lines, is, whole) told =
     told ∙ ap (λ l. l ++ (piece ++ total)) is ∙ append_assoc old said (piece ++ total) ∙ ap (λ l. old ++ l) (sym (append_assoc said piece total) ∙ ap (λ l. l ++ total) whole)
 list_done (Err OutputFault) text total old between new piece why before (n, is) =
-    front_length (text ++ total) old new (drop n (piece ++ total)) (front_more text total old between new (drop n (piece ++ total)) piece before (front_taken (piece ++ total) between new n is))
-list_done (Err Memory) text total old between new piece why before (n, below, is) =
-    front_shorter (text ++ total) old new (drop n (piece ++ total)) (omega (arith, length-drop n (piece ++ total)))
-    (front_more text total old between new (drop n (piece ++ total)) piece before (front_taken (piece ++ total) between new n is))
+    let taken = front_length (IsSaidAt OutputFault) (text ++ total) old new (drop n (piece ++ total))
+    (front_more (IsSaidAt OutputFault) (said_append OutputFault) text total old between new (drop n (piece ++ total)) piece before (front_taken (IsSaidAt OutputFault) (piece ++ total) between new n tt is)) in (taken.0, taken.2)
+list_done (Err Memory) text total old between new piece why before (n, below, lines, is) =
+    front_shorter AreLines (text ++ total) old new (drop n (piece ++ total)) (omega (arith, length-drop n (piece ++ total)))
+    (front_more AreLines lines_append text total old between new (drop n (piece ++ total)) piece before (front_taken AreLines (piece ++ total) between new n lines is))
 list_done (Err Usage) text total old between new piece why before told = absurd why
 list_done (Err (Damaged name)) text total old between new piece why before told = absurd why
 list_done (Err DiskFault) text total old between new piece why before told = absurd why

@@ -16,6 +16,7 @@ use Rattle.ts_store.specs.declared.stop.Stop.TheVariants.{Damaged, OutputFault, 
 use Rattle.ts_store.specs.FolderSays.{file_of, IsDamagedLayer}
 use Rattle.ts_store.specs.Loaded.{IsLoaded, base_record, history_kept}
 use Rattle.ts_store.specs.State.{State}
+use Rattle.ts_store.specs.Stops.{AreLines}
 use Rattle.ts_store.specs.Step.{next_number, are_counted}
 
 abbrev pub state_of : List Loaded → Option ℕ → State
@@ -52,12 +53,17 @@ abbrev pub KeepsAll : List Loaded → Option ℕ → List Loaded → Option ℕ 
 KeepsAll layers last layers_after last_after = (layers_after ≡ layers) × (last_after ≡ last)
 
 -- a front of the text was said, and this is left of it
-abbrev pub SaysFront : List ℕ → List ℕ → List ℕ → List ℕ → Type 0
-SaysFront text old new rest = (said : List ℕ) × (new ≡ old ++ said) × (said ++ rest ≡ text)
+abbrev pub SaysFront : (List ℕ → Type 0) → List ℕ → List ℕ → List ℕ → List ℕ → Type 0
+SaysFront Is text old new rest = (said : List ℕ) × Is said × (new ≡ old ++ said) × (said ++ rest ≡ text)
+
+-- at a fault of the output anything may be said, and else lines alone
+abbrev pub IsSaidAt : Stop → List ℕ → Type 0
+IsSaidAt OutputFault said = Unit {0}
+IsSaidAt _ said = AreLines said
 
 -- all but this rest was said, or a front
-abbrev pub SaysSoFar : {T E : Type 0} → Result T E → List ℕ → List ℕ → List ℕ → List ℕ → Type 0
-SaysSoFar result text old new rest = MatchResult result (λ _. SaysFront text old new rest) (λ _. (left : List ℕ) × SaysFront text old new left)
+abbrev pub SaysSoFar : {T : Type 0} → Result T Stop → List ℕ → List ℕ → List ℕ → List ℕ → Type 0
+SaysSoFar result text old new rest = MatchResult result (λ _. SaysFront AreLines text old new rest) (λ stop. (left : List ℕ) × SaysFront (IsSaidAt stop) text old new left)
 
 -- the layer's file is that of these triples
 pub record IsReadFrom (folder : Folder) (loaded : Loaded) : Type 0 where

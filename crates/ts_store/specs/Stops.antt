@@ -1,5 +1,5 @@
 -- Why a session stops, and what it then leaves.
-use Rattle.std.specs.Prelude.{◌≡◌, ◌⊎◌, ℕ, ◌<◌, ◌≤◌, ◌^◌, Bool, true, false, if◌then◌else◌, List, [], ◌++◌, take, length, IsTrue, Option, None, Some, Result, Ok, Err, MatchResult}
+use Rattle.std.specs.Prelude.{◌≡◌, ◌⊎◌, ℕ, ◌<◌, ◌≤◌, ◌^◌, Bool, true, false, if◌then◌else◌, List, [], ◌∷◌, ◌++◌, take, length, IsTrue, Option, None, Some, Result, Ok, Err, MatchResult}
 use Rattle.std.specs.FinMap.{empty}
 use Rattle.ts_model.specs.NetChange.{net_additions}
 use Rattle.ts_model.specs.Sets.{members}
@@ -72,11 +72,15 @@ LeavesFolder (Err OutputFault) after old new = new ≡ after
 LeavesFolder (Err DiskFault) after old new = IsAnyAt new_tmp old new ⊎ ((new ≡ old) ⊎ (new ≡ after))
 LeavesFolder (Err _) after old new = new ≡ old
 
--- what a step says: its whole reply; a front of it where the output failed; where memory ran out a front that lacks some of it
+-- no text, or a text that ends with a line
+abbrev pub AreLines : List ℕ → Type 0
+AreLines text = (text ≡ []) ⊎ ((front : List ℕ) × (text ≡ front ++ 10 ∷ []))
+
+-- what a step says: its whole reply; a front of it where the output failed; where memory ran out some of its lines, but not all
 abbrev pub LeavesTold : Result Kind Stop → List ℕ → List ℕ → List ℕ → Type 0
 LeavesTold (Ok kind) text old new = new ≡ old ++ text
 LeavesTold (Err OutputFault) text old new = (n : ℕ) × (new ≡ old ++ take n text)
-LeavesTold (Err Memory) text old new = (n : ℕ) × (n < length text) × (new ≡ old ++ take n text)
+LeavesTold (Err Memory) text old new = (n : ℕ) × (n < length text) × AreLines (take n text) × (new ≡ old ++ take n text)
 LeavesTold (Err _) text old new = new ≡ old
 
 abbrev pub is_listing : Command → Bool

@@ -7,7 +7,7 @@ ghost use Rattle.ts_site.specs.Output.{IsSameDisk};
 ghost use Rattle.ts_site.specs.Telling.{Tells};
 ghost use Rattle.ts_store.specs.Doing.{IsAskingStop, SaysSoFar};
 ghost use Rattle.ts_store.specs.Step.{listing_text};
-ghost use Rattle.ts_store.specs.Stops.{CountsSay, LeavesTold};
+ghost use Rattle.ts_store.specs.Stops.{AreLines, CountsSay, LeavesTold};
 
 use crate::{Kind, Stop};
 use std::alloc::Global;
@@ -100,8 +100,9 @@ fn line<W: Site>(site: &mut W, triple: &Triple, piece: &mut Vec<u8>) -> Result<(
     }
 }
 
-/// Says the piece if it is long enough, and then starts it anew.
+/// Says the piece, which is lines, if it is long enough, and then starts it anew.
 fn say_long<W: Site>(site: &mut W, piece: &mut Vec<u8>) -> Result<(), Stop>
+    requires { AreLines piece.old.items }
     ensures told { Tells (W.tells_output site.old) (W.tells_output site.new)
         (SaysSoFar result piece.old.items (W.told site.old) (W.told site.new) piece.new.items) }
     ensures why { IfErr result IsAskingStop }

@@ -17,7 +17,7 @@ returns-in-Err-clause-told g c =
       λ told.
           let said = now.1 (before.0 ∙ told) in
           lines_ended (fits c.args.pattern.now) triple_line c.args.triples.now c.loop-triple.triple-index c.triple-item.result c.loop-triple-test.true c.triple-item.is (sym c.fits.ensures ∙ c.if-fits.true)
-          (g.W.Disk.told c.args.site.now) (g.W.Disk.told c.loop-triple.site) (g.W.Disk.told c.line.new.site) c.loop-triple.piece.items said.0 (before.1 told) said.1,
+          (g.W.Disk.told c.args.site.now) (g.W.Disk.told c.loop-triple.site) (g.W.Disk.told c.line.new.site) c.loop-triple.piece.items said.0 (before.1 told) c.in-Err.stop said.1,
     )
 
 pub loop-triple-preserved : goal.loop-triple-preserved
