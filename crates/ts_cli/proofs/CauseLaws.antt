@@ -26,8 +26,8 @@ module _ (outcome : Outcome) (answer : Result Kind Stop) (is : outcome ≡ outco
   pub input_read : (old new : ℕ) → new ≡ old → Causes InputFault outcome.stop old new
   input_read old new same = (λ wants. absurd (not_reading InputFault tt wants), λ other. same)
 
-  pub limit_read : (reads : Bool) (left left_after : List ℕ) → (reads ≡ true → length left < 2 ^ 40) → LimitCause reads left left_after outcome.stop
-  limit_read reads left left_after short = (λ wants. absurd (not_reading InputLimit tt wants), λ reading long after. let below = short reading in omega (arith, below, long))
+  pub limit_read : (reads tells : Bool) (left left_after : List ℕ) → (IsTrue tells → reads ≡ true → length left < 2 ^ 40) → LimitCause reads tells left left_after outcome.stop
+  limit_read reads tells left left_after short = (λ wants. absurd (not_reading InputLimit tt wants), λ reading told long after. let below = short told reading in omega (arith, below, long))
 
   pub fault_is : (fault : Stop) (old new : ℕ) → Causes fault (stop_of answer) old new → Causes fault outcome.stop old new
   fault_is fault old new cause = subst (λ (o : Outcome). Causes fault o.stop old new) (sym is) cause

@@ -35,7 +35,7 @@ module _ (s : Scene) (told_folder : IsTrue s.tells_folder) (words : List (List �
   the_step : ComesToStep s Asked answer → DoesStep s wanted answer history
   the_step (asked, asks, other, does) =
       subst (λ h. DoesStep s wanted answer h) (same_history s.folder other history (does.says told_folder) stands.says)
-      (subst (λ c. DoesStep s c answer other) (same_command words 0 (lines_of input) asked wanted (asks.1 told_input) is) does)
+      (subst (λ c. DoesStep s c answer other) (same_command words 0 (lines_of input) asked wanted (subst (λ lines. IsCommand words 0 lines asked) (asks.2 told_input) asks.1) is) does)
 
 module _ (s : Scene) (told_folder : IsTrue s.tells_folder) (words : List (List ℕ)) (tells : Bool) (told_input : IsTrue tells) (input : List ℕ) (history : History) (stands : Stands s.folder history) (wanted : Command) (is : IsCommand words 0 (lines_of input) wanted) where
   abbrev Tells : Result Kind Stop → Type 0

@@ -1,5 +1,5 @@
 -- What each stop of a run comes from.
-use Rattle.std.specs.Prelude.{◌≡◌, ◌⊎◌, ℕ, ◌^◌, ◌≤◌, Bool, true, List, drop, length, Option, Some}
+use Rattle.std.specs.Prelude.{◌≡◌, ◌⊎◌, ℕ, ◌^◌, ◌≤◌, Bool, true, IsTrue, List, drop, length, Option, Some}
 use Rattle.ts_script.specs.Words.{IsNoCommand}
 use Rattle.ts_site.specs.Faults.{Rose}
 use Rattle.ts_site.specs.Folder.{Folder}
@@ -34,7 +34,9 @@ DamagedCause folder stop =
 abbrev pub IsOverLimit : List ℕ → List ℕ → Type 0
 IsOverLimit left left_after = (2 ^ 40 ≤ length left) × (left_after ≡ drop (2 ^ 40) left)
 
--- the limit stops exactly an input that is over it and is read, unless another stop came before
-abbrev pub LimitCause : Bool → List ℕ → List ℕ → Option Stop → Type 0
-LimitCause reads left left_after stop =
-    (stop ≡ Some InputLimit → IsOverLimit left left_after) × (reads ≡ true → 2 ^ 40 ≤ length left → IsAfterReading stop → ⊥)
+-- The limit stops only an input that is read. Where the input is told it is over the limit then, and one that is read and over the
+-- limit is stopped so, unless another stop came before.
+abbrev pub LimitCause : Bool → Bool → List ℕ → List ℕ → Option Stop → Type 0
+LimitCause reads tells left left_after stop =
+    (stop ≡ Some InputLimit → (reads ≡ true) × (IsTrue tells → IsOverLimit left left_after))
+    × (reads ≡ true → IsTrue tells → 2 ^ 40 ≤ length left → IsAfterReading stop → ⊥)

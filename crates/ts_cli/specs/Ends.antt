@@ -1,8 +1,8 @@
 -- What a run leaves of the folder and the output.
-use Rattle.std.specs.Prelude.{◌≡◌, ◌⊎◌, ℕ, List, Bool, false, IsTrue, None, Result, Ok, Err, IfOk}
+use Rattle.std.specs.Prelude.{◌≡◌, ◌⊎◌, ℕ, List, Bool, IsTrue, None, Result, Ok, Err, IfOk}
 use Rattle.ts_model.specs.History.{History}
 use Rattle.ts_script.specs.Lines.{lines_of}
-use Rattle.ts_script.specs.Words.{are_base, AsksFor, IsCommand}
+use Rattle.ts_script.specs.Words.{IsCommand}
 use Rattle.ts_script.specs.declared.command.Command.{Command}
 use Rattle.ts_store.specs.declared.stop.Kind.{Kind}
 use Rattle.ts_store.specs.declared.stop.Stop.{Stop}
@@ -14,9 +14,9 @@ use Rattle.ts_store.specs.Step.{Stepped, step_of}
 use Rattle.ts_store.specs.Stops.{LeavesFolder, LeavesTold, folder_of, kind_of}
 use Rattle.ts_cli.specs.Scene.{Scene, LeavesAll}
 
--- The words ask for this command; where it has a body and the input is told, the lines of the input are that body.
+-- the words, and some lines where they have a body, are this command; where the input is told these are its lines
 abbrev pub Asks : List (List ℕ) → Bool → List ℕ → Command → Type 0
-Asks words tells left asked = (are_base words ≡ false → AsksFor words asked) × (IsTrue tells → IsCommand words 0 (lines_of left) asked)
+Asks words tells left asked = (lines : List (List ℕ)) × IsCommand words 0 lines asked × (IsTrue tells → lines ≡ lines_of left)
 
 -- a store with this history, in which this run has made no layer yet
 abbrev pub opened : History → State

@@ -30,6 +30,7 @@ fn read_command<S: Source>(alloc: Global, words: &[String], input: &mut S) -> Re
     ensures all { IsTrue (S.tells input.old) → are_base (map string_bytes words.now) ≡ true → OnOk result (S.left input.new ≡ []) }
     ensures short { IsTrue (S.tells input.old) → are_base (map string_bytes words.now) ≡ true → OnOk result (length (S.left input.old) < 2 ^ 40) }
     ensures limit { IsTrue (S.tells input.old) → IfErr result (λ stop. stop ≡ Stop.InputLimit → IsOverLimit (S.left input.old) (S.left input.new)) }
+    ensures reads { IfErr result (λ stop. stop ≡ Stop.InputLimit → are_base (map string_bytes words.now) ≡ true) }
     ensures why { IfErr result (λ stop. (stop ≡ Stop.Memory) ⊎ IsReadingStop stop) }
     ensures counts { Causes Stop.InputFault (stop_of result) (S.faults input.old) (S.faults input.new) }
     ensures tells { S.tells input.new ≡ S.tells input.old }
@@ -81,10 +82,11 @@ pub fn run<W: Site, S: Source>(
         × Causes Stop.OutputFault result.stop (W.say_faults site.old) (W.say_faults site.new)
         × Causes Stop.InputFault result.stop (S.faults input.old) (S.faults input.new)
         × (IsTrue (W.tells_folder site.old) → DamagedCause (W.now site.old) result.stop)
-        × (IsTrue (S.tells input.old) → LimitCause (are_base (map string_bytes words.now)) (S.left input.old) (S.left input.new) result.stop) }
+        × LimitCause (are_base (map string_bytes words.now)) (S.tells input.old) (S.left input.old) (S.left input.new) result.stop }
 
     // Where nothing fails, there is no stop but want of memory.
-    ensures complete { (IsNoCommand (map string_bytes words.now) → ⊥) → IsTrue (S.tells input.old) → length (S.left input.old) < 2 ^ 40
+    ensures complete { (IsNoCommand (map string_bytes words.now) → ⊥)
+        → (are_base (map string_bytes words.now) ≡ true → IsTrue (S.tells input.old) × (length (S.left input.old) < 2 ^ 40))
         → IsTrue (W.tells_folder site.old) → ((name : List ℕ) → IsFirstDamaged (W.now site.old) name → ⊥)
         → IsCalm (W.disk_faults site.old) (W.disk_faults site.new) → IsCalm (W.say_faults site.old) (W.say_faults site.new)
         → IsCalm (S.faults input.old) (S.faults input.new) → (result.stop ≡ None) ⊎ (result.stop ≡ Some Stop.Memory) }

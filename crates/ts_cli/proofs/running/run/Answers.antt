@@ -59,7 +59,7 @@ returns-clause-folder g c = λ history commands told stands tells are.
     headline_folder s told words tells_input tells left history stands commands are c.answered.result answer c.answered.ensures ends
 
 pub returns-in-Err-step-clause-complete : goal.returns-in-Err-step-clause-complete
-returns-in-Err-step-clause-complete g c = λ command told short tells sound disk output input.
+returns-in-Err-step-clause-complete g c = λ command short tells sound disk output input.
     let memory = only_memory c.in-Err-step.stop c.in-Err-step.ensures.why (λ name is. sound name (c.in-Err-step.ensures.damaged tells name is))
     (λ is. calm_rose _ _ disk (c.in-Err-step.ensures.disk.0 (ap Some is)))
     (λ is. calm_rose _ _ output (c.in-Err-step.ensures.output.0 (ap Some is))) in
@@ -85,7 +85,7 @@ returns-in-Err-step-clause-causes g c =
       fault_is outcome answer is later OutputFault _ _ c.in-Err-step.ensures.output,
       input_read outcome answer is later _ _ (c.in-Ok.ensures.counts.1 (λ none. cc)),
       λ told. damaged_cause s told (Asks words tells_input left) outcome answer is ends (λ other same. c.in-Err-step.ensures.damaged told other (some_is c.in-Err-step.stop (Damaged other) same)),
-      λ told. limit_read outcome answer is later _ left _ (c.in-Ok.ensures.short told),
+      limit_read outcome answer is later _ tells_input left _ c.in-Ok.ensures.short,
     )
 
 pub returns-clause-causes : goal.returns-clause-causes
@@ -104,5 +104,5 @@ returns-clause-causes g c =
       fault_is outcome answer is later OutputFault _ _ c.in-Ok-step.ensures.output,
       input_read outcome answer is later _ _ (c.in-Ok.ensures.counts.1 (λ none. cc)),
       λ told. damaged_cause s told (Asks words tells_input left) outcome answer is ends (λ other same. cc),
-      λ told. limit_read outcome answer is later _ left _ (c.in-Ok.ensures.short told),
+      limit_read outcome answer is later _ tells_input left _ c.in-Ok.ensures.short,
     )
