@@ -88,6 +88,7 @@ pub(crate) fn read_base<S: Source>(
 ) -> Result<Command, ScriptStop>
     ensures base { IsTrue (S.tells input.old) → HasSeenAll cutter.old (S.left input.old) → (lines : List (List ℕ)) → lines_to_come cutter.old (S.left input.old) ≡ map given lines
         → IfOk result (IsBaseCommand cutter.old.number lines) }
+    ensures some { IfOk result (λ command. (lines : List (List ℕ)) × IsBaseCommand cutter.old.number lines command) }
     ensures all { IsTrue (S.tells input.old) → HasSeenAll cutter.old (S.left input.old) → OnOk result (S.left input.new ≡ []) }
     ensures taken { Tells (S.tells input.old) (S.tells input.new) ((bytes : List ℕ) × Took cutter.old cutter.new bytes × (S.left input.old ≡ bytes ++ S.left input.new)) }
     ensures short { OnOk result (cutter.new.taken < cutter.new.limit) }
