@@ -5,7 +5,7 @@ use Rattle.std.proofs.lemmas.List.Elements.{All-cons, All-nil}
 use Rattle.ts_model.specs.declared.signed.SignedTriple.{SignedTriple}
 use Rattle.ts_model.specs.Fact.{IsTriple}
 use Rattle.ts_nt.specs.LineRead.{Answers, IsBad, IsTooLong}
-use Rattle.ts_script.specs.Body.{AreReadAs, SpellBody, IsFirstFault, IsBase}
+use Rattle.ts_script.specs.Body.{AreReadAs, SpellBody, IsFirstFault, IsBaseCommand}
 use Rattle.ts_script.specs.declared.command.Command.{Command}
 use Rattle.ts_script.specs.declared.command.Command.TheVariants as command
 use Rattle.ts_script.proofs.AnswerLaws.{answer_once, bad_unanswered, long_unanswered, bad_or_long, read_triple}
@@ -85,7 +85,7 @@ bad_or_long_first before lines a b bad long =
 
 -- ---- one command
 
-pub same_base : (before : ℕ) (lines : List (List ℕ)) (a b : Command) → IsBase before lines a → IsBase before lines b → a ≡ b
+pub same_base : (before : ℕ) (lines : List (List ℕ)) (a b : Command) → IsBaseCommand before lines a → IsBaseCommand before lines b → a ≡ b
 same_base before lines (command.Base a) (command.Base b) one other = ap command.Base (body_once lines a b one other)
 same_base before lines (command.Base a) (command.BadTriple m) one other = absurd (body_or_fault IsBad IsBad bad_fault bad_fault before lines a m one other)
 same_base before lines (command.Base a) (command.TooLong m) one other = absurd (body_or_fault IsTooLong IsBad long_fault bad_fault before lines a m one other)

@@ -1,9 +1,10 @@
 -- The lines of a body that were read so far.
-use Rattle.std.proofs.Common.{◌≡◌, ℕ, ◌+◌, List, [], ◌∷◌, ◌++◌, length, map, drop, refl, sym, ◌∙◌, ap, subst, arith, append_assoc, append-nil, length-append}
-use Rattle.std.specs.Prelude.{Option}
+use Rattle.std.proofs.Common.{◌≡◌, inl, inr, ℕ, zero, suc, ◌+◌, ◌<◌, Bool, true, false, List, [], ◌∷◌, ◌++◌, length, map, drop, refl, sym, ◌∙◌, ap, subst, arith, append_assoc, append-nil, length-append}
+use Rattle.std.specs.Prelude.{nat_le, if◌then◌else◌, Option}
+use Rattle.std.proofs.lemmas.Bool.{leb-true}
 use Rattle.ts_model.specs.declared.signed.SignedTriple.{SignedTriple}
-use Rattle.ts_script.specs.Lines.{Given, given}
-use Rattle.ts_script.specs.Cutting.{lines_to_come, shown}
+use Rattle.ts_script.specs.Lines.{Given, given, overlong, lines_after, lines_behind}
+use Rattle.ts_script.specs.Cutting.{lines_to_come, shown, IsNext, GivesLine}
 use Rattle.ts_script.specs.declared.cutter.Line.{Line}
 use Rattle.ts_script.specs.Body.{IsFaultOf}
 use Rattle.ts_script.specs.declared.cutter.LineCutter.{LineCutter}
@@ -63,3 +64,51 @@ read-all start cur left_start left_cur body fault lines so_far none is =
     let was = so_far lines is in
     let all : lines ≡ was.done = was.parts ∙ ap (λ (ls : List (List ℕ)). was.done ++ ls) (map-none was.rest (sym was.to_come ∙ none)) ∙ append-nil was.done in
     subst (λ (ls : List (List ℕ)). IsFaultOf start.number ls body fault) (sym all) was.read
+
+-- ---- on every source
+
+-- some lines were read, as many as were given
+abbrev pub IsReadFrom : ℕ → ℕ → List SignedTriple → Option BodyFault → Type 0
+IsReadFrom before number body fault = (lines : List (List ℕ)) × (number ≡ before + length lines) × IsFaultOf before lines body fault
+
+long_line : (n : ℕ) → (bytes : List ℕ) × (n < length bytes)
+long_line zero = (0 ∷ [], omega arith)
+long_line (suc n) = let shorter = long_line n in (0 ∷ shorter.0, let longer : n < length shorter.0 = shorter.1 in omega (arith, longer))
+
+given-overlong : (bytes : List ℕ) → 4194304 < length bytes → given bytes ≡ overlong
+given-overlong bytes over = by_test (nat_le (length bytes) 4194304) refl
+  where
+    by_test : (b : Bool) → nat_le (length bytes) 4194304 ≡ b → (if b then record { bytes = bytes; too_long = false } else overlong) ≡ overlong
+    by_test true t = absurd (let within = leb-true _ _ t in omega arith)
+    by_test false t = refl
+
+-- a line to come is given of some bytes
+given_of-some : (is_overlong after_return : Bool) (text : List ℕ) (line : Given) (lines : List Given) → lines_behind is_overlong after_return text ≡ line ∷ lines
+    → (bytes : List ℕ) × (given bytes ≡ line)
+unfolding lines_behind
+given_of-some true after_return text line lines e =
+    let long = long_line 4194304 in
+    let same : overlong ≡ line = cc in
+    (long.0, given-overlong long.0 long.1 ∙ same)
+given_of-some false after_return text line lines e =
+    let split = map-first (lines_after after_return text) line lines e in (split.0, split.1.2)
+
+next_of-some : (cur new : LineCutter) (bytes : List ℕ) (line : Given) → IsNext cur new bytes line → (bytes : List ℕ) × (given bytes ≡ line)
+next_of-some cur new bytes line (inl next) = given_of-some cur.is_overlong cur.after_return _ line _ (next [])
+next_of-some cur new bytes line (inr last) = given_of-some cur.is_overlong cur.after_return _ line _ last.1
+
+-- one more line
+pub read-some : (before : ℕ) (cur new : LineCutter) (taken : List ℕ) (body body' : List SignedTriple) (fault fault' : Option BodyFault) (line : Line)
+    → IsReadFrom before cur.number body fault
+    → GivesLine cur new taken (shown line)
+    → line.number ≡ cur.number + 1
+    → ((before : ℕ) (lines : List (List ℕ)) (bytes : List ℕ) → given bytes ≡ shown line → line.number ≡ before + length lines + 1
+    → IsFaultOf before lines body fault → IsFaultOf before (lines ++ bytes ∷ []) body' fault')
+    → IsReadFrom before new.number body' fault'
+read-some before cur new taken body body' fault fault' line was gives said add =
+    let some = next_of-some cur new taken (shown line) gives.next in
+    let count : cur.number ≡ before + length was.0 = was.1 in (
+      was.0 ++ some.0 ∷ [],
+      omega (arith, gives.number, count, length-append was.0 (some.0 ∷ [])),
+      add before was.0 some.0 some.1 (omega (arith, said, count)) was.2,
+    )

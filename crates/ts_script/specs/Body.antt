@@ -37,9 +37,9 @@ IsFaultOf before lines body (Some (Bad number)) = IsFirstFault (λ line. IsRefus
 IsFaultOf before lines body (Some (TooLong number)) = IsFirstFault (λ line. IsRefusedFor line line_error.TooLong) before lines number
 
 -- the command `base` with a body of these lines
-abbrev pub IsBase : ℕ → List (List ℕ) → Command → Type 0
-IsBase before lines (command.Base body) = SpellBody lines body
-IsBase before lines (command.BadTriple number) = IsFirstFault (λ line. IsRefusedFor line line_error.Bad) before lines number
-IsBase before lines (command.TooLong number) = IsFirstFault (λ line. IsRefusedFor line line_error.TooLong) before lines number
-IsBase before lines (command.Listing at pattern) = ⊥
-IsBase before lines (command.Has at triple) = ⊥
+abbrev pub IsBaseCommand : ℕ → List (List ℕ) → Command → Type 0
+IsBaseCommand before lines (command.Base body) = SpellBody lines body
+IsBaseCommand before lines (command.BadTriple number) = IsFirstFault (λ line. IsRefusedFor line line_error.Bad) before lines number
+IsBaseCommand before lines (command.TooLong number) = IsFirstFault (λ line. IsRefusedFor line line_error.TooLong) before lines number
+IsBaseCommand before lines (command.Listing at pattern) = ⊥
+IsBaseCommand before lines (command.Has at triple) = ⊥

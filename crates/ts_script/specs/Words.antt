@@ -6,7 +6,7 @@ use Rattle.ts_model.specs.Fact.{HasKinds}
 use Rattle.ts_model.specs.LayerText.{layer_text}
 use Rattle.ts_model.specs.Spelled.{Spelled}
 use Rattle.ts_nt.specs.LineRead.{SpellsTerm}
-use Rattle.ts_script.specs.Body.{IsBase}
+use Rattle.ts_script.specs.Body.{IsBaseCommand}
 use Rattle.ts_script.specs.declared.command.LayerRef.{LayerRef}
 use Rattle.ts_script.specs.declared.command.LayerRef.TheVariants.{Number, Last}
 use Rattle.ts_script.specs.declared.command.Ref.{Ref}
@@ -52,7 +52,7 @@ AsksFor words (command.TooLong line) = ⊥
 
 -- the words, and the lines that follow as a body where they have one, are this command
 abbrev pub IsCommand : List (List ℕ) → ℕ → List (List ℕ) → Command → Type 0
-IsCommand words before lines asked = ((are_base words ≡ true) × IsBase before lines asked) ⊎ AsksFor words asked
+IsCommand words before lines asked = ((are_base words ≡ true) × IsBaseCommand before lines asked) ⊎ AsksFor words asked
 
 -- the words are no command, whatever follows
 abbrev pub IsNoCommand : List (List ℕ) → Type 0

@@ -2,7 +2,7 @@
 ghost use Rattle.std.specs.Prelude.{◌≡◌, ◌+◌, ◌≤◌, ◌<◌, ◌++◌, ◌∷◌, [], ℕ, List, length, IsTrue, OnOk, IfOk, IfErr, true, false, map};
 ghost use Rattle.ts_site.specs.Telling.{Tells};
 ghost use Rattle.ts_script.specs.Lines.{given};
-ghost use Rattle.ts_script.specs.Body.{IsBase};
+ghost use Rattle.ts_script.specs.Body.{IsBaseCommand};
 ghost use Rattle.ts_script.specs.Cutting.{lines_to_come, Took, HasSeenAll};
 ghost use Rattle.ts_script.specs.Stops.{CountsScriptStop};
 
@@ -68,7 +68,7 @@ impl BodySoFar {
 
     /// The command `base` with this body.
     fn into_base(self) -> Command
-        ensures { (before : ℕ) (lines : List (List ℕ)) → IsFaultOf before lines self.signed.items self.fault → IsBase before lines result }
+        ensures { (before : ℕ) (lines : List (List ℕ)) → IsFaultOf before lines self.signed.items self.fault → IsBaseCommand before lines result }
     {
         match self.fault {
             None => Command::Base {
@@ -87,7 +87,8 @@ pub(crate) fn read_base<S: Source>(
     input: &mut S,
 ) -> Result<Command, ScriptStop>
     ensures base { IsTrue (S.tells input.old) → HasSeenAll cutter.old (S.left input.old) → (lines : List (List ℕ)) → lines_to_come cutter.old (S.left input.old) ≡ map given lines
-        → IfOk result (IsBase cutter.old.number lines) }
+        → IfOk result (IsBaseCommand cutter.old.number lines) }
+    ensures some { IfOk result (λ command. (lines : List (List ℕ)) × IsBaseCommand cutter.old.number lines command) }
     ensures all { IsTrue (S.tells input.old) → HasSeenAll cutter.old (S.left input.old) → OnOk result (S.left input.new ≡ []) }
     ensures taken { Tells (S.tells input.old) (S.tells input.new) ((bytes : List ℕ) × Took cutter.old cutter.new bytes × (S.left input.old ≡ bytes ++ S.left input.new)) }
     ensures short { OnOk result (cutter.new.taken < cutter.new.limit) }

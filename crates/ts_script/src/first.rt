@@ -27,6 +27,7 @@ pub fn first_command<S: Source>(
     ensures command { IsTrue (S.tells input.old) → HasSeenAll cutter.old (S.left input.old)
         → (lines : List (List ℕ)) → lines_to_come cutter.old (S.left input.old) ≡ map given lines
         → IfOk result (λ asked. IfSome asked (IsCommand (map string_bytes words.now) cutter.old.number lines)) }
+    ensures some { IfOk result (λ asked. IfSome asked (λ command. (lines : List (List ℕ)) × IsCommand (map string_bytes words.now) cutter.old.number lines command)) }
     ensures all { IsTrue (S.tells input.old) → HasSeenAll cutter.old (S.left input.old) → are_base (map string_bytes words.now) ≡ true
         → OnOk result (S.left input.new ≡ []) }
     ensures taken { Tells (S.tells input.old) (S.tells input.new) ((bytes : List ℕ) × Took cutter.old cutter.new bytes × (S.left input.old ≡ bytes ++ S.left input.new)) }

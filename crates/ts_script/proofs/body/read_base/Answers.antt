@@ -1,7 +1,7 @@
 use Rattle.std.proofs.Common.{◌≡◌, ◌++◌, ◌+◌, true, [], IsTrue, refl, ◌∙◌, arith}
 use Rattle.ts_script.specs.Cutting.{shown, GivesLine, HasEnded, HasSeenAll, Stops}
 use Rattle.ts_script.proofs.CuttingLemmas.{next-line, next-none, left-left, took-took, ended-left}
-use Rattle.ts_script.proofs.BodySoFar.{read-one, read-all}
+use Rattle.ts_script.proofs.BodySoFar.{read-one, read-all, read-some}
 use Rattle.ts_script.proofs.body.read_base.Goals as goal
 
 pub loop-line-init : goal.loop-line-init
@@ -10,6 +10,7 @@ loop-line-init g c = record {
   faults = refl;
   ended = λ told seen. seen;
   lines = λ told seen lines is. record { done = []; rest = lines; parts = refl; to_come = is; number = omega arith; read = c.new-body.ensures c.args.cutter.now.number };
+  some = ([], omega arith, c.new-body.ensures c.args.cutter.now.number);
   taken = ([], record { taken = omega arith; limit = refl }, λ told. refl);
 }
 
@@ -35,6 +36,9 @@ loop-line-preserved g c =
           (was.lines told seen)
           (next-line cur after follows.0 left rest (shown c.in-Ok-Some.line) gives (follows.2.1 (rw was.tells told)) (ended told seen))
           gives.number number c.in_ok-add-in-Ok-Some.ensures;
+      some = read-some c.args.cutter.now.number cur after follows.0
+          c.loop-line.body.signed.items c.add.new.self.signed.items c.loop-line.body.fault c.add.new.self.fault c.in-Ok-Some.line
+          was.some gives number c.in_ok-add-in-Ok-Some.ensures;
       taken = (
         was.taken.0 ++ follows.0,
         took-took c.args.cutter.now cur after was.taken.0 follows.0 was.taken.1 gives.taken gives.limit,
@@ -56,6 +60,11 @@ returns-in-Ok-None-clause-base g c = λ told seen lines is.
     c.into_base.ensures c.args.cutter.now.number lines
     (read-all c.args.cutter.now cur (g.S.Source.left c.args.input.now) left c.loop-line.body.signed.items c.loop-line.body.fault lines (was.lines told seen)
     (next-none cur after follows.0 left rest ends (follows.2.1 tells) none) is)
+
+pub returns-in-Ok-None-clause-some : goal.returns-in-Ok-None-clause-some
+returns-in-Ok-None-clause-some g c =
+    let was = c.loop-line.invariant in
+    (was.some.0, c.into_base.ensures c.args.cutter.now.number was.some.0 was.some.2)
 
 pub returns-in-Ok-None-clause-all : goal.returns-in-Ok-None-clause-all
 returns-in-Ok-None-clause-all g c = λ told seen.

@@ -1,6 +1,6 @@
 use Rattle.std.proofs.Common.{◌≡◌, ℕ, ◌-◌, ◌++◌, List, IsTrue}
 use Rattle.ts_script.specs.Cutting.{Took, HasSeenAll}
-use Rattle.ts_script.proofs.BodySoFar.{IsReadSoFar}
+use Rattle.ts_script.proofs.BodySoFar.{IsReadSoFar, IsReadFrom}
 use Rattle.ts_script.proofs.body.read_base.Given as goal
 
 -- These bytes were taken so far, the lines before what is left were read, and no fault came.
@@ -10,6 +10,7 @@ invariant-loop-line g l = record {
   faults : g.S.Source.faults l.input ≡ g.S.Source.faults l.initial.input;
   ended : IsTrue (g.S.Source.tells l.initial.input) → HasSeenAll l.initial.cutter (g.S.Source.left l.initial.input) → HasSeenAll l.cutter (g.S.Source.left l.input);
   lines : IsTrue (g.S.Source.tells l.initial.input) → HasSeenAll l.initial.cutter (g.S.Source.left l.initial.input) → IsReadSoFar l.initial.cutter (g.S.Source.left l.initial.input) l.cutter (g.S.Source.left l.input) l.body.signed.items l.body.fault;
+  some : IsReadFrom l.initial.cutter.number l.cutter.number l.body.signed.items l.body.fault;
   taken : (bytes : List ℕ) × Took l.initial.cutter l.cutter bytes × (IsTrue (g.S.Source.tells l.initial.input) → g.S.Source.left l.initial.input ≡ bytes ++ g.S.Source.left l.input);
 }
 
