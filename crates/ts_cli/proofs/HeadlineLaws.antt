@@ -49,7 +49,7 @@ module _ (s : Scene) (told_folder : IsTrue s.tells_folder) (words : List (List �
     step_told (Ok kind) does =
         (refl, does.told told_output ∙ ap (λ l. s.told ++ l) (sym (append-nil (step_from history wanted).told)), status_is kind (step_from history wanted).refused does.kind)
     step_told (Err OutputFault) does = does.told told_output
-    step_told (Err Memory) does = let told = does.told told_output in (told.0, told.2)
+    step_told (Err Memory) does = let told = does.told told_output in (told.0, told.3)
     step_told (Err DiskFault) does = (0, does.told told_output ∙ sym (append-nil s.told))
     step_told (Err Usage) does = (0, does.told told_output ∙ sym (append-nil s.told))
     step_told (Err (Damaged name)) does = (0, does.told told_output ∙ sym (append-nil s.told))
