@@ -417,8 +417,28 @@ fn nine_nodes_are_listed(rt: HostRuntime) -> Result<(), Fail> {
     assert!(rt;
         lists(
             rt.alloc(),
-            b"<n9> <p> <n1> .\n<n8> <p> <n1> .\n<n7> <p> <n1> .\n<n6> <p> <n1> .\n<n5> <p> <n1> .\n<n4> <p> <n1> .\n<n3> <p> <n1> .\n<n2> <p> <n1> .\n<n1> <p> <n1> .\n",
-            b"<n1> <p> <n1> .\n<n2> <p> <n1> .\n<n3> <p> <n1> .\n<n4> <p> <n1> .\n<n5> <p> <n1> .\n<n6> <p> <n1> .\n<n7> <p> <n1> .\n<n8> <p> <n1> .\n<n9> <p> <n1> .\ntotal 9\n"
+            b"<n9> <p> <o> .\n<n8> <p> <o> .\n<n7> <p> <o> .\n<n6> <p> <o> .\n<n5> <p> <o> .\n<n4> <p> <o> .\n<n3> <p> <o> .\n<n2> <p> <o> .\n<n1> <p> <o> .\n",
+            b"<n1> <p> <o> .\n<n2> <p> <o> .\n<n3> <p> <o> .\n<n4> <p> <o> .\n<n5> <p> <o> .\n<n6> <p> <o> .\n<n7> <p> <o> .\n<n8> <p> <o> .\n<n9> <p> <o> .\ntotal 9\n"
+        )?
+    );
+    Ok(())
+}
+
+#[test]
+fn terms_are_listed_in_canonical_spelling(rt: HostRuntime) -> Result<(), Fail> {
+    let alloc = rt.alloc();
+    assert!(rt;
+        lists(
+            alloc,
+            b"<a\\u0062> <p> _:b.c.\n<a\\u0020b> <p> \"\\U0001F600\\t\" .\n",
+            b"<a\\u0020b> <p> \"\xF0\x9F\x98\x80\t\" .\n<ab> <p> _:b.c .\ntotal 2\n"
+        )?
+    );
+    assert!(rt;
+        lists(
+            alloc,
+            b"<s> <p> \"1\"^^<http://www.w3.org/2001/XMLSchema#string> .\n",
+            b"<s> <p> \"1\" .\ntotal 1\n"
         )?
     );
     Ok(())

@@ -81,3 +81,10 @@ head_once number parent other rest behind bytes fits one two e f =
     let spaced = append_cancel_left (layer_text number) _ _ named in
     let last : parent_text parent ++ 0x0A ∷ rest ≡ parent_text other ++ 0x0A ∷ behind = append_cancel_left (0x20 ∷ []) _ _ spaced in
     parent_once number parent other rest behind (parent_text parent ++ 0x0A ∷ rest) fits one two refl last
+
+-- one number stands in a head
+pub number_once : (number other : ℕ) (parent named : Option ℕ) (rest behind : List ℕ) → number < 2 ^ 32 → other < 2 ^ 32
+    → head_line number parent ++ rest ≡ head_line other named ++ behind → number ≡ other
+number_once number other parent named rest behind small below e =
+    let texts = append_cancel_left (codes "plain ") _ _ (sym (head_parts number parent rest) ∙ e ∙ head_parts other named behind) in
+    text_once number other small below (sym (take_at (layer_text number) _ 8 (text_length number)) ∙ ap (take 8) texts ∙ take_at (layer_text other) _ 8 (text_length other))

@@ -8,6 +8,7 @@ pub mod LayerLaws
 pub mod LineLaws
 pub mod ListingLaws
 pub mod LookupLaws
+pub mod OneLayer
 pub mod OrderLaws
 pub mod PlainLaws
 pub mod Rows

@@ -10,18 +10,18 @@ use Rattle.ts_plain.proofs.SectionLaws.{one_section}
 first_same : (a b : ℕ) (xs ys : List ℕ) → a ∷ xs ≡ b ∷ ys → a ≡ b
 first_same a b xs ys e = cc
 
-no_addition : (removals : List Fact) → HasNoSign 0x2B (change_lines 0x2D removals)
+pub no_addition : (removals : List Fact) → HasNoSign 0x2B (change_lines 0x2D removals)
 no_addition [] rest e = cc
 no_addition (r ∷ removals) rest e = let same = first_same 0x2D 0x2B _ _ e in omega (arith, same)
 
-nothing : (sign : ℕ) → HasNoSign sign []
+pub nothing : (sign : ℕ) → HasNoSign sign []
 nothing sign rest e = cc
 
-parent_of : (number : ℕ) (parent : Option ℕ) (additions removals : List Fact) → IsPlainLayer number parent additions removals → IsParent number parent
+pub parent_of : (number : ℕ) (parent : Option ℕ) (additions removals : List Fact) → IsPlainLayer number parent additions removals → IsParent number parent
 parent_of number None additions removals layer = tt
 parent_of number (Some parent) additions removals layer = (layer.0.parented, layer.0.parent_fits)
 
-file_parts : (number : ℕ) (parent : Option ℕ) (additions removals : List Fact)
+pub file_parts : (number : ℕ) (parent : Option ℕ) (additions removals : List Fact)
     → plain_file number parent additions removals ≡ head_line number parent ++ (change_lines 0x2B additions ++ change_lines 0x2D removals)
 file_parts number parent additions removals = append_assoc (head_line number parent) (change_lines 0x2B additions) (change_lines 0x2D removals)
 

@@ -7,9 +7,11 @@
 //! search, replays the chain from its base over one sorted set, notes the first layer of each term, and sorts once.
 //!
 //! The layer above uses that the bytes that are written are exactly the layer's plain file, that bytes are read just where
-//! they are exactly such a file, and that a listing is exactly the listing of the layer in the history that the layers make.
+//! they are exactly such a file, that such a file is that of one layer ([`one_layer`]), and that a listing is exactly the
+//! listing of the layer in the history that the layers make.
 #![tactic(auto)]
 
+pub use law::one_layer;
 pub use listing::plain_listing;
 pub use read::{PlainError, read_plain};
 pub use write::{PlainLayer, write_plain};
@@ -20,6 +22,7 @@ mod chain;
 mod changes;
 mod content;
 mod head;
+mod law;
 mod lines;
 mod listing;
 mod read;

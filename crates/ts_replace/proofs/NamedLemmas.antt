@@ -1,12 +1,12 @@
 -- What a scan of a list of names collects.
-use Rattle.std.proofs.Common.{◌≡◌, ◌≢◌, ◌↔◌, ◌<◌, ◌^◌, ◌+◌, ℕ, List, [], ◌∷◌, ◌++◌, Ok, Bool, true, IsTrue, refl, sym, ap, subst, ◌∙◌, inl, inr, take, get_or, length}
+use Rattle.std.proofs.Common.{◌≡◌, ◌≢◌, ◌↔◌, ◌<◌, ◌^◌, ◌+◌, ℕ, List, [], ◌∷◌, ◌++◌, All, Ok, Bool, true, IsTrue, refl, sym, ap, subst, ◌∙◌, inl, inr, take, get_or, length}
 use Rattle.std.specs.Prelude.{Contains, IsPermutation}
 use Rattle.std.specs.List.{dedup}
 use Rattle.std.specs.Cmp.{IsEquivalence}
 use Rattle.std.specs.Int.{w32, to_be_bytes, from_be_bytes}
 use Rattle.std.specs.FinMap.{contains_key}
 use Rattle.std.proofs.lemmas.List.{take_more, append_cancel_right}
-use Rattle.std.proofs.lemmas.List.Elements.{Contains-push, Contains-push_cases, Contains-append_left}
+use Rattle.std.proofs.lemmas.List.Elements.{Contains-get_or, Contains-push, Contains-push_cases, Contains-append_left}
 use Rattle.std.proofs.lemmas.List.Kept.{Contains-dedup, Contains-from_dedup}
 use Rattle.std.proofs.lemmas.List.Sorted.{Contains-permutation, IsPermutation-sym}
 use Rattle.std.proofs.lemmas.Nat.{from_be_bytes-to_be_bytes_4}
@@ -73,6 +73,10 @@ module _ {A : Type 0} (P : A → Type 0) (text : A → List ℕ) (ending : List 
     λ among. (so_far y).0 (Contains-permutation sorted things y (IsPermutation-sym things sorted moved) (Contains-from_dedup E sorted y among)),
     λ h. Contains-dedup e exact sorted y (Contains-permutation things sorted y moved ((so_far y).1 h)),
   )
+
+  -- what is named is a thing
+  pub all_things : (names : List (List ℕ)) (things : List A) → AreNamedIn P text ending names things → All P things
+  all_things names things named = λ i d below. ((named (get_or things i d)).0 (Contains-get_or things i d below)).0
 
 -- things named in a listing are those whose names stand in the folder
 pub named_in_folder : {A : Type 0} (P : A → Type 0) (text : A → List ℕ) (ending : List ℕ) (folder : Folder) (names : List (List ℕ)) (things : List A)

@@ -29,6 +29,7 @@ impl Folder {
     pub fn scan<W: Site>(alloc: Global, site: &mut W) -> Result<Folder, ScanFail>
         ensures rising { IfOk result (λ found. Rise found.layers.items found.rollups.items found.labels.items) }
         ensures numbers { IfOk result (λ found. All IsLayerNumber found.layers.items) }
+        ensures rollup_numbers { IfOk result (λ found. All IsLayerNumber found.rollups.items) }
         ensures folder { Tells (W.tells_folder site.old) (W.tells_folder site.new)
             ((W.now site.new ≡ W.now site.old)
             × IfOk result (λ found. AreThoseOf (W.now site.old) found.layers.items found.rollups.items found.labels.items)) }

@@ -1,12 +1,11 @@
-use Rattle.std.proofs.Common.{List, ℕ, get_or, subst}
+use Rattle.std.proofs.Common.{List, ℕ, subst}
 use Rattle.std.specs.Prelude.{codes}
-use Rattle.std.proofs.lemmas.List.Elements.{Contains-get_or}
 use Rattle.ts_model.specs.LayerText.{layer_text}
 use Rattle.ts_model.specs.Names.{IsLabelName}
 use Rattle.ts_site.specs.Folder.{AppendsNames}
 use Rattle.ts_replace.specs.Names.{IsLayerNumber}
 use Rattle.ts_replace.specs.Scanned.{AreNamedIn}
-use Rattle.ts_replace.proofs.NamedLemmas.{named_in_folder}
+use Rattle.ts_replace.proofs.NamedLemmas.{named_in_folder, all_things}
 use Rattle.ts_replace.proofs.folder.Folder.scan.Goals as goal
 
 pub returns-clause-folder : goal.returns-clause-folder
@@ -27,6 +26,7 @@ returns-clause-folder g c = (
 )
 
 pub returns-clause-numbers : goal.returns-clause-numbers
-returns-clause-numbers g c = λ k d below.
-    let numbers = c.in_ok-layers.layers.items in
-    ((c.in_ok-layers.ensures.named (get_or numbers k d)).0 (Contains-get_or numbers k d below)).0
+returns-clause-numbers g c = all_things IsLayerNumber layer_text (codes ".layer") _ _ c.in_ok-layers.ensures.named
+
+pub returns-clause-rollup_numbers : goal.returns-clause-rollup_numbers
+returns-clause-rollup_numbers g c = all_things IsLayerNumber layer_text (codes ".rollup") _ _ c.in_ok-rollups.ensures.named
