@@ -41,10 +41,6 @@ reads_block starts body texts block place last first i r many e = record {
   spelled = reads_split starts body texts block place last r ∙ ap (λ n. entries_bytes texts n ++ drop place body) many;
 }
 
-pub reads_block_within : (starts body : List ℕ) (texts : List (List ℕ)) (block place last : ℕ) → Reads starts body texts block place last → block ≤ length body
-reads_block_within starts body texts block place last r =
-    omega (arith, r.block_begins, r.within, reads_place starts body texts block place last r, place_le texts (8 * ((length texts - 1) / 8)) (length texts) (omega arith))
-
 pub reads_last : (starts body : List ℕ) (texts : List (List ℕ)) (block place last : ℕ) → Reads starts body texts block place last → 0 < length texts → last ≤ place
 reads_last starts body texts block place last r h =
     let e : length texts - 1 + 1 ≡ length texts = omega arith in
