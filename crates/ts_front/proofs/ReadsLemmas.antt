@@ -9,7 +9,7 @@ use Rattle.ts_front.specs.Shared.{shared_length, text_at}
 use Rattle.ts_front.specs.Dictionary.{Rising, entry_bytes, entries_bytes, place_of, block_starts}
 use Rattle.ts_front.specs.Pieces.{before_at, shared_at, suffix_at, IsBlock, IsBody, Reads, FirstBelow}
 use Rattle.ts_front.proofs.SharedLemmas.{FirstBelow-rising}
-use Rattle.ts_front.proofs.EntriesLemmas.{entries_none, entries_more, entries_front, entries_kept, entries_same, entries_agree, Agrees, text_last, place_le, before_other, Stands, stands}
+use Rattle.ts_front.proofs.EntriesLemmas.{entries_none, entries_more, entries_front, entries_kept, entries_same, entries_agree, Agrees, text_last, before_other, Stands, stands}
 use Rattle.ts_front.proofs.RisingLemmas.{rising_at, rising_push, length-block_starts, block_start_at}
 use Rattle.ts_front.proofs.BlockLemmas.{text_fits}
 

@@ -46,15 +46,15 @@ overflow_add-kept c =
     c.requires.within (omega arith) c.loop-i-test.true (c.loop-i.invariant.placed texts block) c.in-Some.ensures.some in
     record {
       fits = omega (
-            arith,
-            here.fits,
-            ap length (c.loop-i.invariant.written texts block),
-            length-append c.args.into.now.items last,
-            c.len-kept.ensures,
-            c.args.into.now.ok,
-            c.loop-i.into.ok,
-            c.loop-i.into.small,
-          );
+        arith,
+        here.fits,
+        ap length (c.loop-i.invariant.written texts block),
+        length-append c.args.into.now.items last,
+        c.len-kept.ensures,
+        c.args.into.now.ok,
+        c.loop-i.into.ok,
+        c.loop-i.into.small,
+      );
     }
 
 pub returns-in_err-extend_from_slice-clause-kept : goal.returns-in_err-extend_from_slice-clause-kept
