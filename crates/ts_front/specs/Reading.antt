@@ -19,7 +19,7 @@ whole_in bytes = take (number_in bytes) (after_number bytes)
 unfoldable pub after_whole : List ℕ → List ℕ
 after_whole bytes = drop (number_in bytes) (after_number bytes)
 
--- what stands after how much entry i shares, at its bytes: the first entry of a block is whole, and says nothing of that
+-- what stands after the shared length of entry i, at its bytes: the first entry of a block has no shared length
 unfoldable pub after_shared : ℕ → List ℕ → List ℕ
 after_shared i bytes = if i % 8 == 0 then bytes else after_number bytes
 

@@ -1,6 +1,6 @@
 //! Entries appended to a buffer.
 
-ghost use Rattle.std.specs.Prelude.{◌≡◌, ℕ, ◌+◌, ◌-◌, ◌<◌, ◌≤◌, ◌++◌, List, length, OnOk};
+ghost use Rattle.std.specs.Prelude.{◌≡◌, ℕ, ◌+◌, ◌-◌, ◌<◌, ◌≤◌, ◌++◌, List, OnOk};
 ghost use Rattle.ts_front.specs.Buffer.{Extends};
 ghost use Rattle.ts_front.specs.Pieces.{IsBlock};
 ghost use Rattle.ts_front.specs.Shared.{text_at};
