@@ -108,3 +108,15 @@ stands_read texts body i at s small e none =
     let rest : length (suffix_at texts i) < 2 ^ 64 =
     omega (arith, piece_long (i % 8 == 0) (shared_at texts i) (suffix_at texts i), ap length (entry_piece texts i), place_more texts i, s.fits) in
     none (shared_at texts i) (suffix_at texts i) s.after shared rest (ap (λ p. drop p body) e ∙ s.here)
+
+-- so a reader of a block stands within the bytes
+pub block_inside : (body : List ℕ) (place first end : ℕ) (texts : List (List ℕ)) (i at : ℕ) → IsBlock body place first end texts → i < end → at ≡ place_of texts i
+    → at ≤ length body
+block_inside body place first end texts i at block h e =
+    omega (arith, (block_stands body place first end texts i block h).fits, place_le texts i (i + 1) (omega arith))
+
+-- and finds a piece there
+pub block_read : (body : List ℕ) (place first end : ℕ) (texts : List (List ℕ)) (i at : ℕ) → IsBlock body place first end texts → length body < 2 ^ 64 → i < end → at ≡ place_of texts i
+    → ((shared : ℕ) (suffix rest : List ℕ) → shared < 2 ^ 64 → length suffix < 2 ^ 64 → drop at body ≢ piece_bytes (i % 8 == 0) shared suffix ++ rest) → ⊥
+block_read body place first end texts i at block small h e none =
+    stands_read texts body i at (block_stands body place first end texts i block h) small e none

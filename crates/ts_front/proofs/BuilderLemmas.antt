@@ -8,7 +8,7 @@ use Rattle.std.proofs.lemmas.Bool.{cases_eq, cases_lt, eq-eqb, ne_eqb}
 use Rattle.std.proofs.lemmas.List.{length_push, same_lists, get_or_default, get_or_append_left, get_or_push}
 use Rattle.ts_front.specs.Shared.{text_at}
 use Rattle.ts_front.specs.Dictionary.{Rising, whole, added, entries_bytes, place_of, block_starts}
-use Rattle.ts_front.specs.Reading.{texts_in, read_entries}
+use Rattle.ts_front.specs.Reading.{texts_in}
 use Rattle.ts_front.specs.Building.{Holds}
 use Rattle.ts_front.proofs.EntriesLemmas.{entries_none, entries_more, entries_kept, entry_first, entry_other, text_before, text_last}
 use Rattle.ts_front.proofs.ReadLemmas.{texts_read}
@@ -19,7 +19,7 @@ on_ok_from new a b (Ok x) e f = f e
 on_ok_from new a b (Err x) e f = tt
 
 pub texts_none : (body : List ℕ) → texts_in 0 body ≡ []
-unfolding texts_in read_entries
+unfolding texts_in
 texts_none body = refl
 
 starts_none : block_starts [] ≡ []

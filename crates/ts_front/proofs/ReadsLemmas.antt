@@ -9,7 +9,7 @@ use Rattle.ts_front.specs.Shared.{shared_length, text_at}
 use Rattle.ts_front.specs.Dictionary.{Rising, entry_bytes, entries_bytes, place_of, block_starts}
 use Rattle.ts_front.specs.Pieces.{before_at, shared_at, suffix_at, IsBlock, IsBody, Reads, FirstBelow}
 use Rattle.ts_front.proofs.SharedLemmas.{FirstBelow-rising}
-use Rattle.ts_front.proofs.EntriesLemmas.{entries_none, entries_more, entries_front, entries_kept, entries_same, entries_agree, Agrees, text_last, place_le, before_other, Stands, stands}
+use Rattle.ts_front.proofs.EntriesLemmas.{entries_none, entries_more, entries_front, entries_kept, entries_same, entries_agree, Agrees, text_last, before_other, Stands, stands}
 use Rattle.ts_front.proofs.RisingLemmas.{rising_at, rising_push, length-block_starts, block_start_at}
 use Rattle.ts_front.proofs.BlockLemmas.{text_fits}
 
@@ -40,10 +40,6 @@ reads_block starts body texts block place last first i r many e = record {
   rest = drop place body;
   spelled = reads_split starts body texts block place last r ∙ ap (λ n. entries_bytes texts n ++ drop place body) many;
 }
-
-pub reads_block_within : (starts body : List ℕ) (texts : List (List ℕ)) (block place last : ℕ) → Reads starts body texts block place last → block ≤ length body
-reads_block_within starts body texts block place last r =
-    omega (arith, r.block_begins, r.within, reads_place starts body texts block place last r, place_le texts (8 * ((length texts - 1) / 8)) (length texts) (omega arith))
 
 pub reads_last : (starts body : List ℕ) (texts : List (List ℕ)) (block place last : ℕ) → Reads starts body texts block place last → 0 < length texts → last ≤ place
 reads_last starts body texts block place last r h =

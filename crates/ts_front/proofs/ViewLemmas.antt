@@ -18,22 +18,19 @@ shows starts body count texts e h = record {
 }
 
 -- each entry has its block
-pub block_of_entry : (starts body : List ℕ) (texts : List (List ℕ)) (b first end : ℕ) → IsBody starts body texts → 8 * b < length texts → end ≤ length texts → first ≡ 8 * b
-    → IsBlock body (get_or starts b 0) first end texts
-block_of_entry starts body texts b first end is h k e =
+pub block_of_entry : (starts body : List ℕ) (texts : List (List ℕ)) (b place first end : ℕ) → IsBody starts body texts → place ≡ get_or starts b 0
+    → 8 * b < length texts → end ≤ length texts → first ≡ 8 * b → IsBlock body place first end texts
+block_of_entry starts body texts b place first end is at h k e =
     let front = entries_front texts end (length texts) k in
     record {
       begins = omega arith;
-      placed = start_of starts body texts b is h ∙ ap (place_of texts) (sym e);
+      placed = at ∙ start_of starts body texts b is h ∙ ap (place_of texts) (sym e);
       rest = front.0;
       spelled = is.spelled ∙ front.1;
     }
 
 pub place_inside : (starts body : List ℕ) (texts : List (List ℕ)) (i : ℕ) → IsBody starts body texts → i ≤ length texts → place_of texts i ≤ length body
 place_inside starts body texts i is h = omega (arith, place_le texts i (length texts) h, ap length is.spelled)
-
-pub start_inside : (starts body : List ℕ) (texts : List (List ℕ)) (b : ℕ) → IsBody starts body texts → 8 * b < length texts → get_or starts b 0 ≤ length body
-start_inside starts body texts b is h = omega (arith, start_of starts body texts b is h, place_inside starts body texts (8 * b) is (omega arith))
 
 pub count_inside : (starts body : List ℕ) (texts : List (List ℕ)) → IsBody starts body texts → length texts ≤ length body
 count_inside starts body texts is = omega (arith, count_le texts (length texts), ap length is.spelled)

@@ -1,6 +1,6 @@
 //! Entries appended to a buffer.
 
-ghost use Rattle.std.specs.Prelude.{◌≡◌, ℕ, ◌+◌, ◌-◌, ◌<◌, ◌≤◌, ◌++◌, List, length, OnOk};
+ghost use Rattle.std.specs.Prelude.{◌≡◌, ℕ, ◌+◌, ◌-◌, ◌<◌, ◌≤◌, ◌++◌, List, OnOk};
 ghost use Rattle.ts_front.specs.Buffer.{Extends};
 ghost use Rattle.ts_front.specs.Pieces.{IsBlock};
 ghost use Rattle.ts_front.specs.Shared.{text_at};
@@ -19,7 +19,7 @@ pub fn append_last(
 ) -> Result<(), AllocError>
     requires some { first < end }
     requires within { end ≤ first + 8 }
-    requires inside { place ≤ length body.now }
+    requires block { (texts : List (List ℕ)) × IsBlock body.now place first end texts }
     ensures written { (texts : List (List ℕ)) → IsBlock body.now place first end texts
         → OnOk result (into.new.items ≡ into.old.items ++ text_at texts (end - 1)) }
     ensures kept { Extends into.old.items into.new.items }
@@ -27,14 +27,12 @@ pub fn append_last(
     let kept = into.len();
     let mut at = place;
     for i in first..end {
-        match piece_at(body, at, i) {
-            Some((piece, next)) => {
-                into.truncate(kept.saturating_add(piece.shared));
-                into.extend_from_slice(piece.suffix)?;
-                at = next;
-            }
-            None => return Ok(()),
-        }
+        let Some((piece, next)) = piece_at(body, at, i) else {
+            unreachable!()
+        };
+        into.truncate(kept + piece.shared);
+        into.extend_from_slice(piece.suffix)?;
+        at = next;
     }
     Ok(())
 }

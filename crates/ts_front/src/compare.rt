@@ -62,20 +62,18 @@ fn go_on(before: Compared, piece: Piece<'_>, text: &[u8]) -> Compared
 pub fn compare_last(body: &[u8], place: usize, first: u64, end: u64, text: &[u8]) -> Ordering
     requires some { first < end }
     requires within { end ≤ first + 8 }
-    requires inside { place ≤ length body.now }
+    requires block { (texts : List (List ℕ)) × IsBlock body.now place first end texts }
     ensures { (texts : List (List ℕ)) → IsBlock body.now place first end texts
         → result ≡ slice_cmp nat_cmp (text_at texts (end - 1)) text.now }
 {
     let mut at = place;
     let mut found = compare_texts(&[], text);
     for i in first..end {
-        match piece_at(body, at, i) {
-            Some((piece, next)) => {
-                found = go_on(found, piece, text);
-                at = next;
-            }
-            None => return Ordering::Equal,
-        }
+        let Some((piece, next)) = piece_at(body, at, i) else {
+            unreachable!()
+        };
+        found = go_on(found, piece, text);
+        at = next;
     }
     found.order
 }
@@ -84,7 +82,7 @@ pub fn compare_last(body: &[u8], place: usize, first: u64, end: u64, text: &[u8]
 /// entry `first` at `place`.
 pub fn find_equal(body: &[u8], place: usize, first: u64, end: u64, text: &[u8]) -> Option<u64>
     requires within { end ≤ first + 8 }
-    requires inside { place ≤ length body.now }
+    requires block { (texts : List (List ℕ)) × IsBlock body.now place first end texts }
     ensures found { (texts : List (List ℕ)) → IsBlock body.now place first end texts
         → IfSome result (λ i. (first ≤ i) × (i < end) × (text_at texts i ≡ text.now)) }
     ensures absent { (texts : List (List ℕ)) → IsBlock body.now place first end texts
@@ -93,7 +91,9 @@ pub fn find_equal(body: &[u8], place: usize, first: u64, end: u64, text: &[u8]) 
     let mut at = place;
     let mut found = compare_texts(&[], text);
     for i in first..end {
-        let (piece, next) = piece_at(body, at, i)?;
+        let Some((piece, next)) = piece_at(body, at, i) else {
+            unreachable!()
+        };
         found = go_on(found, piece, text);
         if found.order.is_eq() {
             return Some(i);
@@ -114,14 +114,16 @@ fn byte_at(bytes: &[u8], at: usize) -> Option<u8>
 pub fn byte_of_last(body: &[u8], place: usize, first: u64, end: u64, at: usize) -> Option<u8>
     requires some { first < end }
     requires within { end ≤ first + 8 }
-    requires inside { place ≤ length body.now }
+    requires block { (texts : List (List ℕ)) × IsBlock body.now place first end texts }
     ensures { (texts : List (List ℕ)) → IsBlock body.now place first end texts
         → result ≡ slice_get (text_at texts (end - 1)) at }
 {
     let mut next = place;
     let mut found = None;
     for i in first..end {
-        let (piece, after) = piece_at(body, next, i)?;
+        let Some((piece, after)) = piece_at(body, next, i) else {
+            unreachable!()
+        };
         if at >= piece.shared {
             found = byte_at(piece.suffix, at - piece.shared);
         }

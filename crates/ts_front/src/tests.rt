@@ -7,6 +7,7 @@ ghost use Rattle.std.specs.Ordering.{nat_cmp, is_lt};
 use super::*;
 use std::alloc::{AllocError, Global};
 use std::cmp::Ordering;
+use std::process::Abort;
 use std::test::Fail;
 
 /// The section "bytes" of the dictionary of `<a>`, `<ab>`, `<b>`.
@@ -142,14 +143,16 @@ fn is_below(text: &[u8], other: &[u8]) -> bool
 
 /// The dictionary of the numbers below a bound in 8 digits, as its sections "starts" and "bytes". The
 /// numbers rise in digits too: that is seen of each before it is pushed.
-fn many_entries(alloc: Global, count: u64) -> Result<(Vec<u8>, Vec<u8>), AllocError> {
+fn many_entries(
+    rt: &impl Abort,
+    alloc: Global,
+    count: u64,
+) -> Result<(Vec<u8>, Vec<u8>), AllocError> {
     let mut builder = FrontBuilder::new(alloc);
     let mut last = [0; 8];
     for number in 0..count {
         let entry = digits_of(number);
-        if !is_below(&last, &entry) {
-            return Err(AllocError);
-        }
+        assert!(rt; is_below(&last, &entry), "the numbers rise");
         builder.push(&entry)?;
         last = entry;
     }
@@ -161,7 +164,7 @@ fn many_entries(alloc: Global, count: u64) -> Result<(Vec<u8>, Vec<u8>), AllocEr
 
 #[test]
 fn finds_many_entries(rt: HostRuntime) -> Result<(), Fail> {
-    let (starts, bytes) = many_entries(rt.alloc(), MANY)?;
+    let (starts, bytes) = many_entries(&rt, rt.alloc(), MANY)?;
     let view = FrontView::open(&starts, &bytes).ok_or("not a dictionary")?;
     assert_eq!(rt; view.len(), MANY);
     for number in 0..MANY {

@@ -93,11 +93,7 @@ impl<'a> FrontView<'a> {
                 body,
                 count,
             },
-            None => FrontView {
-                starts,
-                body: &[],
-                count: 0,
-            },
+            None => unreachable!(),
         }
     }
 
@@ -178,13 +174,7 @@ impl<'a> FrontView<'a> {
     {
         match piece_at(self.body, place, i) {
             Some(found) => found,
-            None => (
-                Piece {
-                    shared: 0,
-                    suffix: &[],
-                },
-                place,
-            ),
+            None => unreachable!(),
         }
     }
 

@@ -1,4 +1,4 @@
-use Rattle.std.proofs.Common.{◌≡◌, ℕ, ◌≤◌, ◌++◌, List, length}
+use Rattle.std.proofs.Common.{◌≡◌, ℕ, ◌++◌, List}
 use Rattle.ts_front.specs.Buffer.{Extends}
 use Rattle.ts_front.specs.Dictionary.{place_of}
 use Rattle.ts_front.specs.Pieces.{IsBlock}
@@ -7,7 +7,6 @@ use Rattle.ts_front.proofs.append.append_last.Given as goal
 
 abbrev pub invariant-loop-i : goal.invariant-loop-i
 invariant-loop-i l = record {
-  inside : l.at ≤ length l.body;
   kept : Extends l.fn.into.items l.into.items;
   placed : (texts : List (List ℕ)) → IsBlock l.body l.place l.first l.end texts → l.at ≡ place_of texts l.i;
   written : (texts : List (List ℕ)) → IsBlock l.body l.place l.first l.end texts → l.into.items ≡ l.fn.into.items ++ last_of texts l.first l.i;

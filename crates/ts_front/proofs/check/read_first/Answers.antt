@@ -5,11 +5,11 @@ use Rattle.std.specs.declared.cmp.Ordering.TheVariants.{Less}
 use Rattle.std.proofs.lemmas.Bool.{eq-eqb}
 use Rattle.ts_front.specs.Shared.{text_at}
 use Rattle.ts_front.specs.Dictionary.{whole, entry_bytes, place_of}
-use Rattle.ts_front.specs.Pieces.{piece_bytes, IsBody}
+use Rattle.ts_front.specs.Pieces.{piece_bytes, IsBlock, IsBody}
 use Rattle.ts_front.proofs.OrderLemmas.{less_is}
 use Rattle.ts_front.proofs.EntriesLemmas.{Found, found_piece, piece_first, entry_first, suffix_first, text_last}
 use Rattle.ts_front.proofs.RisingLemmas.{rising_at}
-use Rattle.ts_front.proofs.ReadsLemmas.{reads_block, reads_block_within, reads_more, Candidate, candidate, body_stands, start_of}
+use Rattle.ts_front.proofs.ReadsLemmas.{reads_block, reads_more, Candidate, candidate, body_stands, start_of}
 use Rattle.ts_front.proofs.check.read_first.Goals as goal
 use Rattle.ts_front.proofs.check.read_first.Goals.{else-i-gt0-via-then-i-gt0+else-not-is_lt, else-i-gt0-via-else-i-gt0}
 
@@ -35,10 +35,14 @@ returns-then-get-reached-clause-none c = λ us h is.
     let begins = c.requires.begins in
     c.if-get-reached.true (c.get.ensures ∙ start ∙ ap (place_of us) (let e : 8 * (c.args.i / 8) ≡ c.args.i = omega arith in e) ∙ sym place)
 
-pub compare_last-requires-clause-inside : goal.compare_last-requires-clause-inside
-compare_last-requires-clause-inside c =
+pub compare_last-requires-clause-block : goal.compare_last-requires-clause-block
+compare_last-requires-clause-block c =
     let reached = c.args.reached in
-    reads_block_within c.args.starts.now c.args.body.now c.requires.reads.0 reached.block reached.place reached.last c.requires.reads.1.1
+    let begins = c.requires.begins in
+    let block : IsBlock c.args.body.now reached.block (c.args.i - 8) c.args.i c.requires.reads.0 =
+    reads_block c.args.starts.now c.args.body.now c.requires.reads.0 reached.block reached.place reached.last (c.args.i - 8) c.args.i c.requires.reads.1.1 c.requires.reads.1.0
+    (block_is c.args.i c.if-i-gt0.true begins) in
+    (c.requires.reads.0, block)
 
 pub returns-then-not-is_lt-clause-none : goal.returns-then-not-is_lt-clause-none
 returns-then-not-is_lt-clause-none c = λ us h is.

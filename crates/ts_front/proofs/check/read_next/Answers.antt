@@ -4,11 +4,11 @@ use Rattle.std.specs.Ordering.{nat_cmp}
 use Rattle.std.specs.declared.cmp.Ordering.TheVariants.{Less}
 use Rattle.std.proofs.lemmas.Bool.{eq-eqb}
 use Rattle.ts_front.specs.Shared.{shared_length, text_at}
-use Rattle.ts_front.specs.Pieces.{piece_bytes, Reads, FirstBelow}
+use Rattle.ts_front.specs.Pieces.{piece_bytes, IsBlock, Reads, FirstBelow}
 use Rattle.ts_front.proofs.SharedLemmas.{made_greater}
 use Rattle.ts_front.proofs.EntriesLemmas.{piece_first, piece_long}
 use Rattle.ts_front.proofs.BlockLemmas.{stands_read}
-use Rattle.ts_front.proofs.ReadsLemmas.{reads_block, reads_block_within, reads_last, reads_more, candidate, body_stands}
+use Rattle.ts_front.proofs.ReadsLemmas.{reads_block, reads_last, reads_more, candidate, body_stands}
 use Rattle.ts_front.proofs.NextLemmas.{entry_of_piece, Other, other_found}
 use Rattle.ts_front.proofs.check.read_next.Goals as goal
 
@@ -37,13 +37,17 @@ returns-then-piece-reached-clause-none c = λ us h is.
     other_found c.args.starts.now c.args.body.now texts us reached.block reached.place reached.last c.args.i c.in_ok-piece.place piece.shared piece.suffix.now r many is h c.if-i-eq0.false c.in_ok-piece.ensures.some in
     omega (arith, found.fits, r.last_length, ap (λ n. length (text_at texts (n - 1))) many, c.if-piece-reached.true)
 
-pub byte_of_last-old-requires-clause-inside : goal.byte_of_last-old-requires-clause-inside
-byte_of_last-old-requires-clause-inside c =
-    let reached = c.args.reached in
-    reads_block_within c.args.starts.now c.args.body.now c.requires.reads.0 reached.block reached.place reached.last c.requires.reads.1.1
-
 block_is : (i : ℕ) → i % 8 ≢ 0 → i / 8 * 8 ≡ 8 * ((i - 1) / 8)
 block_is i h = omega arith
+
+pub byte_of_last-old-requires-clause-block : goal.byte_of_last-old-requires-clause-block
+byte_of_last-old-requires-clause-block c =
+    let reached = c.args.reached in
+    let i = c.args.i in
+    let block : IsBlock c.args.body.now reached.block (i / 8 * 8) i c.requires.reads.0 =
+    reads_block c.args.starts.now c.args.body.now c.requires.reads.0 reached.block reached.place reached.last (i / 8 * 8) i c.requires.reads.1.1 c.requires.reads.1.0
+    (block_is i c.if-i-eq0.false) in
+    (c.requires.reads.0, block)
 
 pub returns-then-not-begins_greater-clause-none : goal.returns-then-not-begins_greater-clause-none
 returns-then-not-begins_greater-clause-none c = λ us h is.

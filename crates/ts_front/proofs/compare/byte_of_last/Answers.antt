@@ -2,7 +2,7 @@ use Rattle.std.proofs.Common.{◌≡◌, ℕ, ◌+◌, ◌-◌, ◌≤◌, ◌++
 use Rattle.ts_front.specs.Shared.{text_at}
 use Rattle.ts_front.specs.Pieces.{IsBlock}
 use Rattle.ts_front.proofs.MadeLemmas.{get_past, get_before}
-use Rattle.ts_front.proofs.BlockLemmas.{last_of, last_start, last_later, Step, block_stands, block_step, stands_read}
+use Rattle.ts_front.proofs.BlockLemmas.{last_of, last_start, last_later, Step, block_step, block_inside, block_read}
 use Rattle.ts_front.proofs.compare.byte_of_last.Goals as goal
 use Rattle.ts_front.proofs.compare.byte_of_last.Goals.{then-at-piece, else-at-piece}
 
@@ -11,28 +11,30 @@ none_there at = search Rattle.std.proofs.Common.rules
 
 pub loop-i-init : goal.loop-i-init
 loop-i-init c = record {
-  inside = c.requires.inside;
   placed = (λ texts block. block.placed);
   reads = (λ texts block. sym (ap (λ t. slice_get t c.args.at) (last_start texts c.args.first) ∙ none_there c.args.at));
 }
 
-pub returns-in_err-piece : goal.returns-in_err-piece
-returns-in_err-piece c = λ texts block.
-    absurd (stands_read texts c.args.body.now c.loop-i.i c.loop-i.next
-    (block_stands c.args.body.now c.args.place c.args.first c.args.end texts c.loop-i.i block c.loop-i-test.true)
-    (omega arith) (c.loop-i.invariant.placed texts block) c.in_err-piece.ensures.none)
+pub piece_at-requires : goal.piece_at-requires
+piece_at-requires c =
+    block_inside c.args.body.now c.args.place c.args.first c.args.end c.requires.block.0 c.loop-i.i c.loop-i.next c.requires.block.1 c.loop-i-test.true
+    (c.loop-i.invariant.placed c.requires.block.0 c.requires.block.1)
+
+pub unreachable-requires : goal.unreachable-requires
+unreachable-requires c =
+    block_read c.args.body.now c.args.place c.args.first c.args.end c.requires.block.0 c.loop-i.i c.loop-i.next c.requires.block.1 (omega arith) c.loop-i-test.true
+    (c.loop-i.invariant.placed c.requires.block.0 c.requires.block.1) c.in_default.ensures.none
 
 pub loop-i-preserved : goal.loop-i-preserved
 loop-i-preserved c =
     let i = c.loop-i.i in
     let first = c.args.first in
     let body = c.args.body.now in
-    let piece = c.in_ok-piece.piece in
-    let step : (texts : List (List ℕ)) → IsBlock body c.args.place first c.args.end texts → Step texts first i c.in_ok-piece.after piece.shared piece.suffix.now =
-    λ texts block. block_step body c.args.place first c.args.end texts i c.loop-i.next c.in_ok-piece.after piece.shared piece.suffix.now block
-    c.requires.within (omega arith) c.loop-i-test.true (c.loop-i.invariant.placed texts block) c.in_ok-piece.ensures.some in
+    let piece = c.in-Some.piece in
+    let step : (texts : List (List ℕ)) → IsBlock body c.args.place first c.args.end texts → Step texts first i c.in-Some.after piece.shared piece.suffix.now =
+    λ texts block. block_step body c.args.place first c.args.end texts i c.loop-i.next c.in-Some.after piece.shared piece.suffix.now block
+    c.requires.within (omega arith) c.loop-i-test.true (c.loop-i.invariant.placed texts block) c.in-Some.ensures.some in
     record {
-      inside = c.in_ok-piece.ensures.some.1;
       placed = (λ texts block. (step texts block).goes_on);
       reads = (λ texts block.
           let here = step texts block in

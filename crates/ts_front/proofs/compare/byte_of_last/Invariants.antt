@@ -1,4 +1,4 @@
-use Rattle.std.proofs.Common.{◌≡◌, ℕ, ◌≤◌, List, length, slice_get}
+use Rattle.std.proofs.Common.{◌≡◌, ℕ, List, slice_get}
 use Rattle.ts_front.specs.Dictionary.{place_of}
 use Rattle.ts_front.specs.Pieces.{IsBlock}
 use Rattle.ts_front.proofs.BlockLemmas.{last_of}
@@ -6,7 +6,6 @@ use Rattle.ts_front.proofs.compare.byte_of_last.Given as goal
 
 abbrev pub invariant-loop-i : goal.invariant-loop-i
 invariant-loop-i l = record {
-  inside : l.next ≤ length l.body;
   placed : (texts : List (List ℕ)) → IsBlock l.body l.place l.first l.end texts → l.next ≡ place_of texts l.i;
   reads : (texts : List (List ℕ)) → IsBlock l.body l.place l.first l.end texts → l.found ≡ slice_get (last_of texts l.first l.i) l.at;
 }

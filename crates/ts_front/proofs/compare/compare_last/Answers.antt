@@ -4,7 +4,7 @@ use Rattle.std.specs.Ordering.{nat_cmp}
 use Rattle.ts_front.specs.Shared.{text_at}
 use Rattle.ts_front.specs.Pieces.{IsBlock, Compares}
 use Rattle.ts_front.proofs.SharedLemmas.{shared_le_right}
-use Rattle.ts_front.proofs.BlockLemmas.{last_of, last_start, last_later, Step, block_stands, block_step, stands_read}
+use Rattle.ts_front.proofs.BlockLemmas.{last_of, last_start, last_later, Step, block_step, block_inside, block_read}
 use Rattle.ts_front.proofs.compare.compare_last.Goals as goal
 
 pub loop-i-init : goal.loop-i-init
@@ -12,7 +12,6 @@ loop-i-init c =
     let text = c.args.text.now in
     let found = c.compare_texts-found in
     record {
-      inside = c.requires.inside;
       shares = omega (arith, found.ensures.shares, shared_le_right [] text);
       placed = (λ texts block. block.placed);
       compares = (λ texts block. subst (λ t. Compares t text found.result.shared found.result.order) (sym (last_start texts c.args.first)) found.ensures);
@@ -29,7 +28,6 @@ loop-i-preserved c =
     λ texts block. block_step body c.args.place c.args.first c.args.end texts i c.loop-i.at c.in-Some.next piece.shared piece.suffix.now block
     c.requires.within (omega arith) c.loop-i-test.true (c.loop-i.invariant.placed texts block) c.in-Some.ensures.some in
     record {
-      inside = c.in-Some.ensures.some.1;
       shares = c.go_on-found.ensures.inside;
       placed = (λ texts block. (step texts block).goes_on);
       compares = (λ texts block.
@@ -38,11 +36,15 @@ loop-i-preserved c =
           (c.go_on-found.ensures.compares (last_of texts c.args.first i) here.fits (c.loop-i.invariant.compares texts block)));
     }
 
-pub returns-in-None : goal.returns-in-None
-returns-in-None c = λ texts block.
-    absurd (stands_read texts c.args.body.now c.loop-i.i c.loop-i.at
-    (block_stands c.args.body.now c.args.place c.args.first c.args.end texts c.loop-i.i block c.loop-i-test.true)
-    (omega arith) (c.loop-i.invariant.placed texts block) c.in-None.ensures.none)
+pub piece_at-requires : goal.piece_at-requires
+piece_at-requires c =
+    block_inside c.args.body.now c.args.place c.args.first c.args.end c.requires.block.0 c.loop-i.i c.loop-i.at c.requires.block.1 c.loop-i-test.true
+    (c.loop-i.invariant.placed c.requires.block.0 c.requires.block.1)
+
+pub unreachable-requires : goal.unreachable-requires
+unreachable-requires c =
+    block_read c.args.body.now c.args.place c.args.first c.args.end c.requires.block.0 c.loop-i.i c.loop-i.at c.requires.block.1 (omega arith) c.loop-i-test.true
+    (c.loop-i.invariant.placed c.requires.block.0 c.requires.block.1) c.in_default.ensures.none
 
 pub returns : goal.returns
 returns c = λ texts block.

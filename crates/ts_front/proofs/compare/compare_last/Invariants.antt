@@ -6,7 +6,6 @@ use Rattle.ts_front.proofs.compare.compare_last.Given as goal
 
 abbrev pub invariant-loop-i : goal.invariant-loop-i
 invariant-loop-i l = record {
-  inside : l.at ≤ length l.body;
   shares : l.found.shared ≤ length l.text;
   placed : (texts : List (List ℕ)) → IsBlock l.body l.place l.first l.end texts → l.at ≡ place_of texts l.i;
   compares : (texts : List (List ℕ)) → IsBlock l.body l.place l.first l.end texts → Compares (last_of texts l.first l.i) l.text l.found.shared l.found.order;

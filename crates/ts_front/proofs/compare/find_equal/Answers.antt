@@ -6,7 +6,7 @@ use Rattle.ts_front.specs.Pieces.{IsBlock, Compares, piece_bytes}
 use Rattle.std.proofs.lemmas.Bool.{cases_lt}
 use Rattle.ts_front.proofs.OrderLemmas.{same_text, other_text}
 use Rattle.ts_front.proofs.SharedLemmas.{shared_le_right}
-use Rattle.ts_front.proofs.BlockLemmas.{last_of, last_start, last_next, Step, block_stands, block_step, stands_read}
+use Rattle.ts_front.proofs.BlockLemmas.{last_of, last_start, last_next, Step, block_step, block_inside, block_read}
 use Rattle.ts_front.proofs.compare.find_equal.Goals as goal
 
 pub loop-i-init : goal.loop-i-init
@@ -14,18 +14,21 @@ loop-i-init c =
     let text = c.args.text.now in
     let found = c.compare_texts-found in
     record {
-      inside = c.requires.inside;
       shares = omega (arith, found.ensures.shares, shared_le_right [] text);
       placed = (λ texts block. block.placed);
       compares = (λ texts block. subst (λ t. Compares t text found.result.shared found.result.order) (sym (last_start texts c.args.first)) found.ensures);
       passed = (λ texts block k low high. absurd (omega arith));
     }
 
-pub returns-in_err-piece-clause-absent : goal.returns-in_err-piece-clause-absent
-returns-in_err-piece-clause-absent c = λ texts block.
-    absurd (stands_read texts c.args.body.now c.loop-i.i c.loop-i.at
-    (block_stands c.args.body.now c.args.place c.args.first c.args.end texts c.loop-i.i block c.loop-i-test.true)
-    (omega arith) (c.loop-i.invariant.placed texts block) c.in_err-piece.ensures.none)
+pub piece_at-requires : goal.piece_at-requires
+piece_at-requires c =
+    block_inside c.args.body.now c.args.place c.args.first c.args.end c.requires.block.0 c.loop-i.i c.loop-i.at c.requires.block.1 c.loop-i-test.true
+    (c.loop-i.invariant.placed c.requires.block.0 c.requires.block.1)
+
+pub unreachable-requires : goal.unreachable-requires
+unreachable-requires c =
+    block_read c.args.body.now c.args.place c.args.first c.args.end c.requires.block.0 c.loop-i.i c.loop-i.at c.requires.block.1 (omega arith) c.loop-i-test.true
+    (c.loop-i.invariant.placed c.requires.block.0 c.requires.block.1) c.in_default.ensures.none
 
 here : (body text : List ℕ) (place first end i at next shared : ℕ) (suffix : List ℕ) (before after : ℕ) (earlier later : Ordering)
     → end ≤ first + 8 → first ≤ i → i < end
@@ -44,9 +47,9 @@ pub returns-then-is_eq-clause-found : goal.returns-then-is_eq-clause-found
 returns-then-is_eq-clause-found c = λ texts block.
     let i = c.loop-i.i in
     let low : c.args.first ≤ i = omega arith in
-    let both = here c.args.body.now c.args.text.now c.args.place c.args.first c.args.end i c.loop-i.at c.in_ok-piece.next c.in_ok-piece.piece.shared c.in_ok-piece.piece.suffix.now
+    let both = here c.args.body.now c.args.text.now c.args.place c.args.first c.args.end i c.loop-i.at c.in-Some.next c.in-Some.piece.shared c.in-Some.piece.suffix.now
     c.loop-i.found.shared c.go_on-found.result.shared c.loop-i.found.order c.go_on-found.result.order
-    c.requires.within low c.loop-i-test.true c.in_ok-piece.ensures.some c.loop-i.invariant.placed c.loop-i.invariant.compares c.go_on-found.ensures.compares texts block in (
+    c.requires.within low c.loop-i-test.true c.in-Some.ensures.some c.loop-i.invariant.placed c.loop-i.invariant.compares c.go_on-found.ensures.compares texts block in (
       low,
       c.loop-i-test.true,
       sym (last_next texts c.args.first i low) ∙ same_text c.go_on-found.result.order (last_of texts c.args.first (i + 1)) c.args.text.now both.1.ordered (sym c.is_eq.ensures ∙ c.if-is_eq.true),
@@ -56,11 +59,10 @@ pub loop-i-preserved : goal.loop-i-preserved
 loop-i-preserved c =
     let i = c.loop-i.i in
     let low : c.args.first ≤ i = omega arith in
-    let both = here c.args.body.now c.args.text.now c.args.place c.args.first c.args.end i c.loop-i.at c.in_ok-piece.next c.in_ok-piece.piece.shared c.in_ok-piece.piece.suffix.now
+    let both = here c.args.body.now c.args.text.now c.args.place c.args.first c.args.end i c.loop-i.at c.in-Some.next c.in-Some.piece.shared c.in-Some.piece.suffix.now
     c.loop-i.found.shared c.go_on-found.result.shared c.loop-i.found.order c.go_on-found.result.order
-    c.requires.within low c.loop-i-test.true c.in_ok-piece.ensures.some c.loop-i.invariant.placed c.loop-i.invariant.compares c.go_on-found.ensures.compares in
+    c.requires.within low c.loop-i-test.true c.in-Some.ensures.some c.loop-i.invariant.placed c.loop-i.invariant.compares c.go_on-found.ensures.compares in
     record {
-      inside = c.in_ok-piece.ensures.some.1;
       shares = c.go_on-found.ensures.inside;
       placed = (λ texts block. (both texts block).0);
       compares = (λ texts block. (both texts block).1);

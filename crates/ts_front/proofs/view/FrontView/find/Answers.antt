@@ -1,4 +1,4 @@
-use Rattle.std.proofs.Common.{◌≡◌, ◌≢◌, ℕ, ◌+◌, ◌*◌, ◌/◌, ◌<◌, ◌≤◌, length, sym, ◌∙◌, ap, subst, arith, inl, inr}
+use Rattle.std.proofs.Common.{◌≡◌, ◌≢◌, ℕ, ◌+◌, ◌*◌, ◌/◌, ◌<◌, ◌≤◌, length, sym, ◌∙◌, ap, arith, inl, inr}
 use Rattle.std.specs.Cmp.Lexicographic.{slice_cmp}
 use Rattle.std.specs.Ordering.{nat_cmp}
 use Rattle.std.specs.declared.cmp.Ordering.TheVariants.{Greater}
@@ -8,7 +8,7 @@ use Rattle.ts_front.specs.Shared.{text_at}
 use Rattle.ts_front.specs.Pieces.{IsBlock}
 use Rattle.ts_front.proofs.OrderLemmas.{greater_later, greater_differs, earlier_differs, if_none_then}
 use Rattle.ts_front.proofs.RisingLemmas.{rising_at, length-block_starts}
-use Rattle.ts_front.proofs.ViewLemmas.{Shows, shows, block_of_entry, start_inside, count_inside}
+use Rattle.ts_front.proofs.ViewLemmas.{Shows, shows, block_of_entry, count_inside}
 use Rattle.ts_front.proofs.view.FrontView.find.Goals as goal
 
 pub returns-in_err-block-clause-absent : goal.returns-in_err-block-clause-absent
@@ -37,12 +37,18 @@ get-requires c =
     let s : Shows v.starts v.body.now v.count texts = shows v.starts v.body.now v.count texts c.self.view_is c.self.invariant in
     omega (arith, ap length s.is.starts_are, length-block_starts texts, c.in_ok-block.ensures.some.0)
 
-pub find_equal-requires-clause-inside : goal.find_equal-requires-clause-inside
-find_equal-requires-clause-inside c =
+pub find_equal-requires-clause-block : goal.find_equal-requires-clause-block
+find_equal-requires-clause-block c =
     let v = c.self.inside in
     let texts = c.args.self.now in
     let s : Shows v.starts v.body.now v.count texts = shows v.starts v.body.now v.count texts c.self.view_is c.self.invariant in
-    omega (arith, c.get.ensures, start_inside v.starts v.body.now texts c.in_ok-block.block s.is c.in_ok-block.ensures.some.0)
+    let b = c.in_ok-block.block in
+    let known = c.in_ok-block.ensures.some in
+    let end : ℕ = b * 8 + c.min.result in
+    let within : end ≤ length texts = omega (arith, c.min.ensures, s.counted, known.0) in
+    let block : IsBlock v.body.now c.get.result (b * 8) end texts =
+    block_of_entry v.starts v.body.now texts b c.get.result (b * 8) end s.is c.get.ensures known.0 within (omega arith) in
+    (texts, block)
 
 pub returns-clause-found : goal.returns-clause-found
 returns-clause-found c =
@@ -55,8 +61,7 @@ returns-clause-found c =
     let end : ℕ = b * 8 + c.min.result in
     let within : end ≤ length texts = omega (arith, c.min.ensures, s.counted, known.0) in
     let block : IsBlock v.body.now c.get.result (b * 8) end texts =
-    subst (λ p. IsBlock v.body.now p (b * 8) end texts) (sym c.get.ensures)
-    (block_of_entry v.starts v.body.now texts b (b * 8) end s.is known.0 within (omega arith)) in
+    block_of_entry v.starts v.body.now texts b c.get.result (b * 8) end s.is c.get.ensures known.0 within (omega arith) in
     IfSome_then c.find_equal.result (c.find_equal.ensures.found texts block)
     (λ i h. (let inside : i < length texts = omega (arith, h.1, within) in inside, h.2))
 
@@ -71,8 +76,7 @@ returns-clause-absent c =
     let end : ℕ = b * 8 + c.min.result in
     let within : end ≤ length texts = omega (arith, c.min.ensures, s.counted, known.0) in
     let block : IsBlock v.body.now c.get.result (b * 8) end texts =
-    subst (λ p. IsBlock v.body.now p (b * 8) end texts) (sym c.get.ensures)
-    (block_of_entry v.starts v.body.now texts b (b * 8) end s.is known.0 within (omega arith)) in
+    block_of_entry v.starts v.body.now texts b c.get.result (b * 8) end s.is c.get.ensures known.0 within (omega arith) in
     let not_above : slice_cmp nat_cmp (text_at texts (8 * b)) text ≢ Greater = known.1 in
     if_none_then c.find_equal.result (c.find_equal.ensures.absent texts block) (λ none i h.
     elim (cases_lt i (b * 8)) [

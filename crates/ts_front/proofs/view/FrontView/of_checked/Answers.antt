@@ -6,8 +6,8 @@ use Rattle.ts_front.proofs.view.FrontView.of_checked.Goals as goal
 pub of_checked-starts-requires : goal.of_checked-starts-requires
 of_checked-starts-requires c = (block_starts c.requires.0, starts_said c.args.starts.now c.args.bytes.now c.requires.0 c.requires.1)
 
-pub invariant_of-t-7 : goal.invariant_of-t-7
-invariant_of-t-7 c =
+pub invariant_of-result : goal.invariant_of-result
+invariant_of-result c =
     let texts = c.requires.0 in
     let says = c.requires.1 in
     let starts = c.args.starts.now in
@@ -19,8 +19,8 @@ invariant_of-t-7 c =
     let h : Held starts bytes numbers body count = held starts bytes numbers body count texts says found.0 found.1 in
     (h.counted, h.is)
 
-pub returns-in-Some-clause-says : goal.returns-in-Some-clause-says
-returns-in-Some-clause-says c =
+pub returns-clause-says : goal.returns-clause-says
+returns-clause-says c =
     let texts = c.requires.0 in
     let says = c.requires.1 in
     let starts = c.args.starts.now in
@@ -32,14 +32,9 @@ returns-in-Some-clause-says c =
     let h : Held starts bytes numbers body count = held starts bytes numbers body count texts says found.0 found.1 in
     h.says
 
-pub returns-in-Some-clause-only : goal.returns-in-Some-clause-only
-returns-in-Some-clause-only c = λ others says.
+pub returns-clause-only : goal.returns-clause-only
+returns-clause-only c = λ others says.
     one_list_read c.args.starts.now c.args.bytes.now c.in-Some.body.now c.in-Some.count others says c.in-Some.ensures.fits c.in-Some.ensures.some
 
-pub invariant_of-result : goal.invariant_of-result
-invariant_of-result c =
-    absurd (omega (arith, c.in-None.ensures.none, ap length c.requires.1.bytes_spelled, bytes_long c.requires.0))
-
-pub returns-in-None : goal.returns-in-None
-returns-in-None c =
-    absurd (omega (arith, c.in-None.ensures.none, ap length c.requires.1.bytes_spelled, bytes_long c.requires.0))
+pub unreachable-requires : goal.unreachable-requires
+unreachable-requires c = omega (arith, c.in-None.ensures.none, ap length c.requires.1.bytes_spelled, bytes_long c.requires.0)
