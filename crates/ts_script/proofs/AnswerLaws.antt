@@ -1,5 +1,7 @@
--- A line has one answer, and none where it is at fault.
-use Rattle.std.proofs.Common.{◌≡◌, inl, inr, ℕ, ◌≤◌, List, length, Option, None, Some, refl, sym, subst, chars, arith}
+-- A line has one answer, or is at fault.
+use Rattle.std.proofs.Common.{◌≡◌, inl, inr, ℕ, Bool, true, false, ◌≤◌, List, length, Option, None, Some, refl, sym, subst, chars, arith}
+use Rattle.std.specs.Prelude.{nat_le}
+use Rattle.std.proofs.lemmas.Bool.{leb-false, leb-true}
 use Rattle.ts_model.specs.declared.signed.Sign.{Sign}
 use Rattle.ts_model.specs.declared.signed.SignedTriple.{SignedTriple}
 use Rattle.ts_model.specs.Fact.{Fact, IsTriple}
@@ -36,6 +38,21 @@ long_unanswered line (Some signed) (inr (sign, fact, spells, over)) read =
 pub bad_or_long : (line : List ℕ) → IsBad line → IsTooLong line → ⊥
 bad_or_long line bad (inl over) = omega arith
 bad_or_long line bad (inr (sign, fact, spells, over)) = bad.2 sign fact spells
+
+-- a line has an answer, or is at fault
+pub answered_or_fault : (line : List ℕ) → (IsBad line → ⊥) → (IsTooLong line → ⊥) → ((answer : Option SignedTriple) → Answers line answer → ⊥) → ⊥
+answered_or_fault line not_bad not_long unanswered = by_length (nat_le (length line) 4194304) refl
+  where
+    by_length : (b : Bool) → nat_le (length line) 4194304 ≡ b → ⊥
+    by_length false t = not_long (inl (leb-false _ _ t))
+    by_length true t =
+        let within : length line ≤ 4194304 = leb-true _ _ t in
+        not_bad (
+          within,
+          λ silent. unanswered None (within, silent),
+          λ sign fact spells.
+              not_long (inr (sign, fact, spells, λ small. unanswered (Some (record { sign = sign; triple = fact })) (within, spells, small))),
+        )
 
 -- what a line is read as is a triple
 pub read_triple : (line : List ℕ) (signed : SignedTriple) → IsReadAs line signed → IsTriple signed.triple

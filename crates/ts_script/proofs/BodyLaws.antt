@@ -1,5 +1,5 @@
 -- Lines are one body, or have one first fault.
-use Rattle.std.proofs.Common.{◌≡◌, ◌⊎◌, inl, inr, ℕ, ◌+◌, List, [], ◌∷◌, ◌++◌, length, All, refl, sym, ap, ◌∙◌, subst, arith}
+use Rattle.std.proofs.Common.{◌≡◌, ◌⊎◌, inl, inr, ℕ, ◌+◌, List, [], ◌∷◌, ◌++◌, length, All, refl, sym, ap, ◌∙◌, subst, arith, append_assoc, append-nil}
 use Rattle.std.specs.Prelude.{flat_map, Option, None, Some, option_to_list}
 use Rattle.std.proofs.lemmas.List.Elements.{All-cons, All-nil}
 use Rattle.ts_model.specs.declared.signed.SignedTriple.{SignedTriple}
@@ -8,7 +8,8 @@ use Rattle.ts_nt.specs.LineRead.{Answers, IsBad, IsTooLong}
 use Rattle.ts_script.specs.Body.{AreReadAs, SpellBody, IsFirstFault, IsBaseCommand}
 use Rattle.ts_script.specs.declared.command.Command.{Command}
 use Rattle.ts_script.specs.declared.command.Command.TheVariants as command
-use Rattle.ts_script.proofs.AnswerLaws.{answer_once, bad_unanswered, long_unanswered, bad_or_long, read_triple}
+use Rattle.ts_script.proofs.AnswerLaws.{answer_once, bad_unanswered, long_unanswered, bad_or_long, answered_or_fault, read_triple}
+use Rattle.ts_script.proofs.BodyLemmas.{read-more}
 
 -- ---- one body
 
@@ -103,6 +104,22 @@ same_base before lines (command.BadTriple n) (command.Listing at pattern) one ot
 same_base before lines (command.BadTriple n) (command.Has at triple) one other = absurd other
 same_base before lines (command.TooLong n) (command.Listing at pattern) one other = absurd other
 same_base before lines (command.TooLong n) (command.Has at triple) one other = absurd other
+
+-- ---- no lines without a command
+
+-- where the lines in front were read, the lines that follow make a command with them
+read_on : (before : ℕ) (front rest : List (List ℕ)) (answers : List (Option SignedTriple)) → AreReadAs front answers → ((asked : Command) → IsBaseCommand before (front ++ rest) asked → ⊥) → ⊥
+read_on before front [] answers read none =
+    none (command.Base (flat_map option_to_list answers)) (answers, subst (λ (lines : List (List ℕ)). AreReadAs lines answers) (sym (append-nil front)) read, refl)
+read_on before front (line ∷ rest) answers read none =
+    answered_or_fault line
+    (λ bad. none (command.BadTriple (before + length front + 1)) (record { front = front; line = line; rest = rest; parts = refl; number = refl; answers = answers; read = read; fault = bad }))
+    (λ long. none (command.TooLong (before + length front + 1)) (record { front = front; line = line; rest = rest; parts = refl; number = refl; answers = answers; read = read; fault = long }))
+    (λ answer one. read_on before (front ++ line ∷ []) rest (answers ++ answer ∷ []) (read-more front answers line answer read one)
+    (λ asked is. none asked (subst (λ (lines : List (List ℕ)). IsBaseCommand before lines asked) (append_assoc front (line ∷ []) rest) is)))
+
+pub some_base : (before : ℕ) (lines : List (List ℕ)) → ((asked : Command) → IsBaseCommand before lines asked → ⊥) → ⊥
+some_base before lines none = read_on before [] lines [] tt none
 
 -- ---- triples
 

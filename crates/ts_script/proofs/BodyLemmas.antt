@@ -44,7 +44,7 @@ pub fault-more : (before : ℕ) (lines : List (List ℕ)) (bytes : List ℕ) (bo
 fault-more before lines bytes body (Bad at) found = first_fault-more _ before lines bytes at found
 fault-more before lines bytes body (TooLong at) found = first_fault-more _ before lines bytes at found
 
-read-more : (lines : List (List ℕ)) (answers : List (Option SignedTriple)) (line : List ℕ) (answer : Option SignedTriple) → AreReadAs lines answers → Answers line answer → AreReadAs (lines ++ line ∷ []) (answers ++ answer ∷ [])
+pub read-more : (lines : List (List ℕ)) (answers : List (Option SignedTriple)) (line : List ℕ) (answer : Option SignedTriple) → AreReadAs lines answers → Answers line answer → AreReadAs (lines ++ line ∷ []) (answers ++ answer ∷ [])
 read-more [] [] line answer read one = (one, tt)
 read-more [] (x ∷ answers) line answer read one = absurd read
 read-more (l ∷ lines) [] line answer read one = absurd read

@@ -5,9 +5,11 @@ ghost use Rattle.ts_model.specs.declared.signed.SignedTriple.{SignedTriple};
 ghost use Rattle.ts_script.specs.Words.{IsCommand, IsNoCommand};
 ghost use Rattle.ts_script.specs.declared.command.Command.{Command};
 
-/// Words and the lines behind them are one command, or none. Each line of a body names a triple in its canonical spelling.
+/// Words and the lines behind them are one command, or none exactly where the words are none. Each line of a body
+/// names a triple in its canonical spelling.
 pub fn one_command()
     ensures once { (words : List (List ℕ)) (before : ℕ) (lines : List (List ℕ)) (a b : Command) → IsCommand words before lines a → IsCommand words before lines b → a ≡ b }
     ensures none { (words : List (List ℕ)) (before : ℕ) (lines : List (List ℕ)) (asked : Command) → IsNoCommand words → IsCommand words before lines asked → ⊥ }
+    ensures some { (words : List (List ℕ)) (before : ℕ) (lines : List (List ℕ)) → ((asked : Command) → IsCommand words before lines asked → ⊥) → IsNoCommand words }
     ensures triples { (words : List (List ℕ)) (before : ℕ) (lines : List (List ℕ)) (body : List SignedTriple) → IsCommand words before lines (Command.Base body) → All (λ line. IsTriple line.triple) body }
 {}
