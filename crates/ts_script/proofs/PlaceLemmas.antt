@@ -1,24 +1,16 @@
 -- The place of the next line.
-use Rattle.std.proofs.Common.{◌≡◌, ◌⊎◌, ℕ, ◌+◌, ◌-◌, ◌<◌, ◌≤◌, ◌==◌, if◌then◌else◌, Bool, true, false, List, [], ◌∷◌, ◌++◌, length, get_or, take, slice_range, refl, sym, ◌∙◌, ap, arith, inl, inr, append_assoc, append-nil}
+use Rattle.std.proofs.Common.{◌≡◌, ◌⊎◌, ℕ, ◌+◌, ◌<◌, ◌≤◌, ◌==◌, Bool, true, false, List, [], ◌∷◌, ◌++◌, length, get_or, take, slice_range, refl, sym, ◌∙◌, ap, arith, inl, inr, append_assoc, append-nil}
 use Rattle.std.proofs.lemmas.Bool.{ne_eqb}
 use Rattle.ts_script.specs.Lines.{feed_of}
 use Rattle.ts_script.specs.Cutting.{waiting, place_of_next, place_behind}
 use Rattle.ts_script.specs.declared.cutter.LineCutter.{LineCutter}
-use Rattle.ts_script.proofs.LinesLemmas.{slice_range-first, slice_range-kept, slice_range-split, length-slice_range, not_after_return}
+use Rattle.ts_script.proofs.LinesLemmas.{slice_range-first, slice_range-kept, slice_range-split, not_after_return}
 
 -- more bytes take no line feed away
 feed-more : (r : Bool) (text more : List ℕ) → feed_of r text ≤ feed_of r (text ++ more)
 feed-more false text more = omega arith
 feed-more true [] more = omega arith
 feed-more true (b ∷ text) more = omega arith
-
-feed-within : (r : Bool) (text : List ℕ) → feed_of r text ≤ length text
-feed-within false text = omega arith
-feed-within true [] = omega arith
-feed-within true (b ∷ text) = elim (b == 10) as (λ t. (if t then 1 else 0) ≤ length (b ∷ text)) [
-  | true ↦ omega arith
-  | false ↦ omega arith
-]
 
 pub feed-none : (r : Bool) (text : List ℕ) → r ≡ false → feed_of r text ≡ 0
 feed-none r text is = rw is refl
@@ -59,8 +51,3 @@ place-here c = ap (λ (text : List ℕ). c.passed + feed_of c.after_return text)
 
 pub place-rises : (c : LineCutter) (bytes : List ℕ) → place_of_next c ≤ place_behind c bytes
 place-rises c bytes = omega (arith, feed-more c.after_return (waiting c) bytes)
-
-pub place-within : (c : LineCutter) → place_of_next c ≤ c.limit
-place-within c =
-    let long : length (waiting c) ≡ c.end - c.start = length-slice_range c.buffer.items c.start c.end (omega arith) (omega arith) in
-    omega (arith, feed-within c.after_return (waiting c))
