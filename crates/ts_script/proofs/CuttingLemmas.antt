@@ -1,8 +1,34 @@
 -- What several calls on a cutter make together.
 use Rattle.std.proofs.Common.{◌≡◌, ◌+◌, length, ℕ, Bool, true, false, refl, List, [], ◌∷◌, ◌++◌, sym, ◌∙◌, ap, arith, inl, inr, append_assoc, append-nil, length-append}
 use Rattle.ts_script.specs.Lines.{Given}
-use Rattle.ts_script.specs.Cutting.{lines_to_come, Keeps, GivesWhole, GivesLine, HasEnded, Takes, Took, IsNext}
+use Rattle.ts_script.specs.Cutting.{lines_to_come, place_of_next, place_behind, Keeps, GivesWhole, GivesLine, HasEnded, Takes, Took, IsNext}
 use Rattle.ts_script.specs.declared.cutter.LineCutter.{LineCutter}
+use Rattle.ts_script.proofs.PlaceLemmas.{place-here, place-rises}
+
+pub keeps-whole : (a b c : LineCutter) (line : Given) → Keeps a b → GivesWhole b c line → GivesWhole a c line
+keeps-whole a b c line first second = record {
+  lines = λ left. sym (first.lines left) ∙ second.lines left;
+  taken = second.taken ∙ first.taken;
+  limit = second.limit ∙ first.limit;
+  number = omega (arith, first.number, second.number);
+  has_ended = second.has_ended ∙ first.has_ended;
+  place = omega (arith, first.place [], place-here a, place-here b, second.place);
+  begins = second.begins;
+}
+
+pub keeps-keeps : (a b c : LineCutter) → Keeps a b → Keeps b c → Keeps a c
+keeps-keeps a b c first second = record {
+  lines = λ left. second.lines left ∙ first.lines left;
+  taken = second.taken ∙ first.taken;
+  limit = second.limit ∙ first.limit;
+  number = second.number ∙ first.number;
+  has_ended = second.has_ended ∙ first.has_ended;
+  place = λ left. second.place left ∙ first.place left;
+}
+
+-- where the next line begins, once these bytes were taken
+takes-place : (a b : LineCutter) (bytes : List ℕ) → Takes a b bytes → place_of_next b ≡ place_behind a bytes
+takes-place a b bytes takes = sym (place-here b) ∙ takes.place [] ∙ ap (place_behind a) (append-nil bytes)
 
 pub takes-keeps : (a b c : LineCutter) (bytes : List ℕ) → Takes a b bytes → Keeps b c → Takes a c bytes
 takes-keeps a b c bytes first second = record {
@@ -10,7 +36,8 @@ takes-keeps a b c bytes first second = record {
   taken = second.taken ∙ first.taken;
   limit = second.limit ∙ first.limit;
   number = second.number ∙ first.number;
-  passed = omega (arith, first.passed, second.passed);
+  place = λ more. second.place more ∙ first.place more;
+  ended = λ is. second.has_ended ∙ first.ended is;
 }
 
 pub takes-takes : (a b c : LineCutter) (xs ys : List ℕ) → Takes a b xs → Takes b c ys → Takes a c (xs ++ ys)
@@ -19,7 +46,8 @@ takes-takes a b c xs ys first second = record {
   taken = omega (arith, first.taken, second.taken, length-append xs ys);
   limit = second.limit ∙ first.limit;
   number = second.number ∙ first.number;
-  passed = omega (arith, first.passed, second.passed);
+  place = λ more. second.place more ∙ first.place (ys ++ more) ∙ ap (place_behind a) (sym (append_assoc xs ys more));
+  ended = λ is. second.ended (first.ended is);
 }
 
 pub takes-whole : (a b c : LineCutter) (bytes : List ℕ) (line : Given) → Takes a b bytes → GivesWhole b c line → GivesLine a c bytes line
@@ -28,7 +56,9 @@ takes-whole a b c bytes line first second = record {
   taken = second.taken ∙ first.taken;
   limit = second.limit ∙ first.limit;
   number = omega (arith, first.number, second.number);
-  passed = omega (arith, first.passed, second.passed);
+  place = omega (arith, place-rises a bytes, takes-place a b bytes first, second.place);
+  begins = second.begins;
+  ended = λ is. second.has_ended ∙ first.ended is;
 }
 
 next-last : (a b c : LineCutter) (bytes : List ℕ) (line : Given) → Takes a b bytes → IsNext b c [] line → IsNext a c bytes line
@@ -42,7 +72,9 @@ takes-last a b c bytes line first second = record {
   taken = omega (arith, first.taken, second.taken);
   limit = second.limit ∙ first.limit;
   number = omega (arith, first.number, second.number);
-  passed = omega (arith, first.passed, second.passed);
+  place = omega (arith, place-rises a bytes, takes-place a b bytes first, second.place);
+  begins = second.begins;
+  ended = λ is. second.ended (first.ended is);
 }
 
 pub takes-none : (a b c : LineCutter) (bytes : List ℕ) → Takes a b bytes → HasEnded b c [] → HasEnded a c bytes
@@ -53,7 +85,7 @@ takes-none a b c bytes first second = record {
   taken = omega (arith, first.taken, second.taken);
   limit = second.limit ∙ first.limit;
   number = second.number ∙ first.number;
-  passed = omega (arith, first.passed, second.passed);
+  place = second.place ∙ place-here b ∙ takes-place a b bytes first;
 }
 
 pub left-left : (whole xs ys rest end : List ℕ) → whole ≡ xs ++ rest → rest ≡ ys ++ end → whole ≡ (xs ++ ys) ++ end

@@ -6,4 +6,5 @@ pub mod BodySoFar
 pub mod CommandLaws
 pub mod CuttingLemmas
 pub mod LinesLemmas
+pub mod PlaceLemmas
 pub mod WordsLemmas

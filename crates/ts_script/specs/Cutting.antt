@@ -15,14 +15,22 @@ waiting c = slice_range c.buffer.items c.start c.end
 abbrev pub lines_to_come : LineCutter → List ℕ → List Given
 lines_to_come c left = lines_behind c.is_overlong c.after_return (waiting c ++ left)
 
--- the lines to come stay, whatever is left in the source, and so do the counts
+-- the number of taken bytes before the next line
+abbrev pub place_of_next : LineCutter → ℕ
+place_of_next c = c.passed + feed_of c.after_return (waiting c)
+
+-- the place of the next line, once these bytes were taken
+abbrev pub place_behind : LineCutter → List ℕ → ℕ
+place_behind c bytes = c.passed + feed_of c.after_return (waiting c ++ bytes)
+
+-- the lines to come and the place of the next one stay, whatever is left in the source, and so do the counts
 pub record Keeps (old new : LineCutter) : Type 0 where
   pub lines : (left : List ℕ) → lines_to_come new left ≡ lines_to_come old left
   pub taken : new.taken ≡ old.taken
   pub limit : new.limit ≡ old.limit
   pub number : new.number ≡ old.number
   pub has_ended : new.has_ended ≡ old.has_ended
-  pub passed : old.passed ≤ new.passed
+  pub place : (left : List ℕ) → place_behind new left ≡ place_behind old left
 
 -- no whole line waits, and what waits is no more than a line may have
 pub record HasNoLine (c : LineCutter) : Type 0 where
@@ -46,15 +54,18 @@ pub record GivesWhole (old new : LineCutter) (line : Given) : Type 0 where
   pub limit : new.limit ≡ old.limit
   pub number : new.number ≡ old.number + 1
   pub has_ended : new.has_ended ≡ old.has_ended
-  pub passed : old.passed < new.passed
+  pub place : place_of_next old < place_of_next new
+  pub begins : new.is_overlong ≡ false
 
--- The lines to come are those of before, once these bytes were taken.
+-- The lines to come are those of before, once these bytes were taken, and the place of the next one is that of
+-- before, behind a line feed that belongs to the last end.
 pub record Takes (old new : LineCutter) (bytes : List ℕ) : Type 0 where
   pub lines : (more : List ℕ) → lines_to_come new more ≡ lines_to_come old (bytes ++ more)
   pub taken : new.taken ≡ old.taken + length bytes
   pub limit : new.limit ≡ old.limit
   pub number : new.number ≡ old.number
-  pub passed : old.passed ≤ new.passed
+  pub place : (more : List ℕ) → place_behind new more ≡ place_behind old (bytes ++ more)
+  pub ended : old.has_ended ≡ true → new.has_ended ≡ true
 
 -- After these bytes the line is the next one, whatever follows; or the input ends with them, and it is the last.
 abbrev pub IsNext : LineCutter → LineCutter → List ℕ → Given → Type 0
@@ -62,13 +73,15 @@ IsNext old new bytes line =
     ((more : List ℕ) → lines_to_come old (bytes ++ more) ≡ line ∷ lines_to_come new more)
     ⊎ ((new.has_ended ≡ true) × (lines_to_come old bytes ≡ line ∷ []) × (lines_to_come new [] ≡ []))
 
--- the next line is given once these bytes were taken
+-- The next line is given once these bytes were taken. No byte of the line behind it was let go.
 pub record GivesLine (old new : LineCutter) (bytes : List ℕ) (line : Given) : Type 0 where
   pub next : IsNext old new bytes line
   pub taken : new.taken ≡ old.taken + length bytes
   pub limit : new.limit ≡ old.limit
   pub number : new.number ≡ old.number + 1
-  pub passed : old.passed < new.passed
+  pub place : place_of_next old < place_of_next new
+  pub begins : new.is_overlong ≡ false
+  pub ended : old.has_ended ≡ true → new.has_ended ≡ true
 
 -- the input has ended with these bytes, and no line is left
 pub record HasEnded (old new : LineCutter) (bytes : List ℕ) : Type 0 where
@@ -78,7 +91,7 @@ pub record HasEnded (old new : LineCutter) (bytes : List ℕ) : Type 0 where
   pub taken : new.taken ≡ old.taken + length bytes
   pub limit : new.limit ≡ old.limit
   pub number : new.number ≡ old.number
-  pub passed : old.passed ≤ new.passed
+  pub place : place_of_next new ≡ place_behind old bytes
 
 -- These bytes were taken: at least one, or none at the end or at a fault.
 pub record Fills (old new : LineCutter) (bytes : List ℕ) (result : Result (Unit {0}) InputStop) : Type 0 where
@@ -107,7 +120,7 @@ NextIs show old new bytes (Err stop) = Stops old new bytes stop
 pub record IsFresh (c : LineCutter) (most : ℕ) : Type 0 where
   pub limit : c.limit ≡ most
   pub taken : c.taken ≡ 0
-  pub passed : c.passed ≡ 0
+  pub place : place_of_next c ≡ 0
   pub number : c.number ≡ 0
   pub has_ended : c.has_ended ≡ false
 
@@ -119,7 +132,3 @@ pub record Took (old new : LineCutter) (bytes : List ℕ) : Type 0 where
 -- where the end was seen, nothing is left
 abbrev pub HasSeenAll : LineCutter → List ℕ → Type 0
 HasSeenAll c left = c.has_ended ≡ true → left ≡ []
-
--- the number of taken bytes before the next line
-abbrev pub place_of_next : LineCutter → ℕ
-place_of_next c = c.passed + feed_of c.after_return (waiting c)

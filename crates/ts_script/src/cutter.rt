@@ -343,6 +343,7 @@ impl LineCutter {
         ensures next { (bytes : List ℕ) × NextIs (line_at self.new) self.old self.new bytes result
             × Tells (S.tells input.old) (S.tells input.new) (S.left input.old ≡ bytes ++ S.left input.new) }
         ensures ended { self.old.has_ended ≡ false → self.new.has_ended ≡ true → IsTrue (S.tells input.old) → S.left input.new ≡ [] }
+        ensures closed { self.old.has_ended ≡ true → input.new ≡ input.old }
         ensures counts { CountsStop result (S.faults input.old) (S.faults input.new) }
         ensures in_buffer { IfOk result (λ line. IfSome line (λ span. (span.from ≤ span.to) × (span.to ≤ 4259840))) }
     {
@@ -382,6 +383,7 @@ impl LineCutter {
         ensures* next { sem 𝓛 (Rests the_row self.entry (λ new. (bytes : List ℕ) × NextIs shown self.old new bytes result
             × Tells (S.tells input.old) (S.tells input.new) (S.left input.old ≡ bytes ++ S.left input.new)
             × (self.old.has_ended ≡ false → new.has_ended ≡ true → IsTrue (S.tells input.old) → S.left input.new ≡ []))) }
+        ensures closed { self.old.has_ended ≡ true → input.new ≡ input.old }
         ensures number { IfOk result (λ line. IfSome line (λ line. line.number ≡ self.old.number + 1)) }
         ensures counts { CountsStop result (S.faults input.old) (S.faults input.new) }
     {

@@ -1,5 +1,5 @@
 use Rattle.std.proofs.Common.{◌≡◌, ℕ, ◌-◌, ◌++◌, List, IsTrue}
-use Rattle.ts_script.specs.Cutting.{Took, HasSeenAll}
+use Rattle.ts_script.specs.Cutting.{Took, HasSeenAll, place_of_next}
 use Rattle.ts_script.proofs.BodySoFar.{IsReadSoFar, IsReadFrom}
 use Rattle.ts_script.proofs.body.read_base.Given as goal
 
@@ -15,4 +15,4 @@ invariant-loop-line g l = record {
 }
 
 abbrev pub decreases-loop-line : goal.decreases-loop-line
-decreases-loop-line g l = l.cutter.limit - l.cutter.passed
+decreases-loop-line g l = l.cutter.limit - place_of_next l.cutter

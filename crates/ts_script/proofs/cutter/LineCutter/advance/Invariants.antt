@@ -10,6 +10,7 @@ invariant-loop-span g l =
       tells : g.S.Source.tells l.input ≡ g.S.Source.tells l.initial.input;
       left : IsTrue (g.S.Source.tells l.initial.input) → g.S.Source.left l.initial.input ≡ bytes ++ g.S.Source.left l.input;
       ended : l.initial.self.has_ended ≡ false → l.self.has_ended ≡ true → IsTrue (g.S.Source.tells l.initial.input) → g.S.Source.left l.input ≡ [];
+      closed : l.initial.self.has_ended ≡ true → l.input ≡ l.initial.input;
       faults : g.S.Source.faults l.input ≡ g.S.Source.faults l.initial.input;
     }
 

@@ -1,5 +1,6 @@
 use Rattle.std.proofs.Common.{◌≡◌, ◌+◌, ◌++◌, ◌-◌, Bool, [], ℕ, true, false, length, drop, slice_range, refl, sym, ◌∙◌, ap, arith, inl, inr}
 use Rattle.ts_script.proofs.LinesLemmas.{lines_behind-more, lines_behind-kept, no_end-kept, taken_front, length-slice_range}
+use Rattle.ts_script.proofs.PlaceLemmas.{feed-kept, feed-behind}
 use Rattle.ts_script.proofs.cutter.LineCutter.fill.Goals as goal
 
 is_open : (new old : Bool) → new ≡ old → old ≡ false → new ≡ true → ⊥
@@ -33,7 +34,8 @@ returns-in-Err-clause-takes g c =
           taken = made.takes.taken;
           limit = made.takes.limit;
           number = made.takes.number;
-          passed = made.takes.passed;
+          place = λ more. ap (λ (n : ℕ). mid.passed + n) (feed-kept mid.after_return mid.buffer.items after more mid.end mid.start c.take_into.ensures.before) ∙ made.takes.place more;
+          ended = λ is. made.ended ∙ is;
         };
         cause = (
           refl,
@@ -64,7 +66,8 @@ returns-in-Ok-eq0-clause-takes g c =
           taken = made.takes.taken;
           limit = made.takes.limit;
           number = made.takes.number;
-          passed = made.takes.passed;
+          place = λ more. ap (λ (n : ℕ). mid.passed + n) (feed-kept mid.after_return mid.buffer.items after more mid.end mid.start c.take_into.ensures.before) ∙ made.takes.place more;
+          ended = λ is. refl;
         };
         cause = tt;
         goes_on = inr refl;
@@ -102,7 +105,9 @@ returns-in-Ok-clause-takes g c =
           taken = omega arith;
           limit = made.takes.limit;
           number = made.takes.number;
-          passed = made.takes.passed;
+          place = λ more. ap (λ (n : ℕ). mid.passed + n) (feed-behind mid.after_return mid.buffer.items after more mid.end mid.start k c.take_into.ensures.before (omega arith))
+              ∙ made.takes.place (slice_range after mid.end (mid.end + k) ++ more);
+          ended = λ is. made.ended ∙ is;
         };
         cause = tt;
         goes_on = inl (omega (arith, c.in-Ok.count-test));

@@ -1,5 +1,7 @@
 use Rattle.std.proofs.Common.{refl, arith, ◌+◌}
 use Rattle.ts_script.proofs.LinesLemmas.{lines_behind-front, not_after_return, is_end-read, no_end-empty}
+use Rattle.ts_script.proofs.PlaceLemmas.{feed-none}
+use Rattle.ts_script.specs.Cutting.{waiting}
 use Rattle.ts_script.proofs.cutter.LineCutter.give.Goals as goal
 
 pub returns-clause-gives : goal.returns-clause-gives
@@ -15,7 +17,8 @@ returns-clause-gives c =
       limit = refl;
       number = refl;
       has_ended = refl;
-      passed = omega arith;
+      place = omega (arith, feed-none old.after_return (waiting old) (not_after_return old.after_return old.start old.end c.requires.settled (omega arith)));
+      begins = refl;
     }
 
 pub invariant_of-self-clause-no_end : goal.invariant_of-self-clause-no_end

@@ -1,6 +1,7 @@
-use Rattle.std.proofs.Common.{◌≡◌, ◌⊎◌, ◌<◌, ◌-◌, true, false, length, refl, arith, inl, inr}
+use Rattle.std.proofs.Common.{◌≡◌, ◌⊎◌, ◌<◌, ◌-◌, true, false, length, refl, sym, arith, inl, inr}
 use Rattle.ts_script.specs.Cutting.{waiting}
 use Rattle.ts_script.proofs.LinesLemmas.{lines_behind-last, lines_behind-nil, no_end-empty, length-slice_range, not_after_return}
+use Rattle.ts_script.proofs.PlaceLemmas.{place-here, not_return, feed-none}
 use Rattle.ts_script.proofs.cutter.LineCutter.last_line.Goals as goal
 
 pub invariant_of-self-clause-no_end : goal.invariant_of-self-clause-no_end
@@ -10,7 +11,7 @@ pub returns-then-not-has_rest-clause-none : goal.returns-then-not-has_rest-claus
 returns-then-not-has_rest-clause-none c =
     let old = c.args.self.now in
     let nothing = lines_behind-nil old.is_overlong old.after_return old.buffer.items old.start old.end (c.has_rest.ensures.whole c.if-not-has_rest.true) (c.has_rest.ensures.none c.if-not-has_rest.true) in
-    record { ended = c.requires.ended; none = nothing; after = nothing; taken = omega arith; limit = refl; number = refl; passed = omega arith }
+    record { ended = c.requires.ended; none = nothing; after = nothing; taken = omega arith; limit = refl; number = refl; place = sym (place-here old) }
 
 pub returns-clause-some : goal.returns-clause-some
 returns-clause-some c =
@@ -27,5 +28,11 @@ returns-clause-some c =
       taken = omega arith;
       limit = refl;
       number = refl;
-      passed = c.has_rest.ensures.some c.if-not-has_rest.false;
+      place = omega (
+        arith,
+        c.has_rest.ensures.some c.if-not-has_rest.false,
+        feed-none old.after_return (waiting old) (not_return old.is_overlong old.after_return old.start old.end old.one_of_two c.requires.none.settled (c.has_rest.ensures.what c.if-not-has_rest.false)),
+      );
+      begins = refl;
+      ended = λ is. is;
     }

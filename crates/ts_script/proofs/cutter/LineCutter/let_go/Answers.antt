@@ -1,6 +1,7 @@
-use Rattle.std.proofs.Common.{◌≡◌, ◌⊎◌, ◌<◌, ◌-◌, true, length, refl, arith, inl, inr}
+use Rattle.std.proofs.Common.{◌≡◌, ◌⊎◌, ℕ, ◌+◌, ◌<◌, ◌-◌, ◌++◌, true, length, refl, sym, ◌∙◌, ap, arith, inl, inr}
 use Rattle.ts_script.specs.Cutting.{waiting}
 use Rattle.ts_script.proofs.LinesLemmas.{lines_behind-gone, not_after_return, length-slice_range}
+use Rattle.ts_script.proofs.PlaceLemmas.{feed-none, not_return}
 use Rattle.ts_script.proofs.cutter.LineCutter.let_go.Goals as goal
 use Rattle.ts_script.proofs.cutter.LineCutter.let_go.Goals.{then-self-via-then-self, then-self-via-else-self+then-self-gt-LINE_LIMIT}
 
@@ -10,6 +11,9 @@ returns-then-self-clause-keeps c =
     let long : length (waiting old) ≡ old.end - old.start = length-slice_range old.buffer.items old.start old.end (omega arith) (omega arith) in
     let over : (old.is_overlong ≡ true) ⊎ (4194304 < length (waiting old)) =
     elim c.then-self.branch [ then-self-via-then-self w ↦ inl w.if-self.true | then-self-via-else-self+then-self-gt-LINE_LIMIT w ↦ inr (omega arith) ] in
+    let apart : (old.is_overlong ≡ true) ⊎ (old.start < old.end) =
+    elim c.then-self.branch [ then-self-via-then-self w ↦ inl w.if-self.true | then-self-via-else-self+then-self-gt-LINE_LIMIT w ↦ inr (omega arith) ] in
+    let no_return = not_return old.is_overlong old.after_return old.start old.end old.one_of_two c.requires.settled apart in
     record {
       lines = λ left. lines_behind-gone old.is_overlong old.after_return (waiting old) left over
           (λ some. not_after_return old.after_return old.start old.end c.requires.settled (omega arith)) c.requires.no_end;
@@ -17,5 +21,5 @@ returns-then-self-clause-keeps c =
       limit = refl;
       number = refl;
       has_ended = refl;
-      passed = omega arith;
+      place = λ left. ap (λ (n : ℕ). old.passed + n) (feed-none old.after_return left no_return ∙ sym (feed-none old.after_return (waiting old ++ left) no_return));
     }

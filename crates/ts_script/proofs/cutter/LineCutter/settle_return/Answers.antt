@@ -1,5 +1,6 @@
 use Rattle.std.proofs.Common.{refl, arith}
 use Rattle.ts_script.proofs.LinesLemmas.{settled_feed, settled_other}
+use Rattle.ts_script.proofs.PlaceLemmas.{feed-one, feed-other}
 use Rattle.ts_script.proofs.cutter.LineCutter.settle_return.Goals as goal
 
 pub returns-then-index-eq10-clause-keeps : goal.returns-then-index-eq10-clause-keeps
@@ -9,7 +10,7 @@ returns-then-index-eq10-clause-keeps c = record {
   limit = refl;
   number = refl;
   has_ended = refl;
-  passed = omega arith;
+  place = λ left. omega (arith, feed-one c.args.self.now.after_return c.args.self.now.buffer.items left c.args.self.now.start c.args.self.now.end c.index.result.now c.if-self.true (omega arith) (omega arith) c.index.ensures c.if-index-eq10.true);
 }
 
 pub returns-else-index-eq10-clause-keeps : goal.returns-else-index-eq10-clause-keeps
@@ -19,5 +20,5 @@ returns-else-index-eq10-clause-keeps c = record {
   limit = refl;
   number = refl;
   has_ended = refl;
-  passed = omega arith;
+  place = λ left. omega (arith, feed-other c.args.self.now.after_return c.args.self.now.buffer.items left c.args.self.now.start c.args.self.now.end c.index.result.now c.if-self.true (omega arith) (omega arith) c.index.ensures c.if-index-eq10.false);
 }
