@@ -10,8 +10,12 @@
 //! its cause.
 #![tactic(auto)]
 
+#[cfg(test)]
+mod fault_tests;
 mod outcome;
 mod running;
+#[cfg(test)]
+mod test_runs;
 #[cfg(test)]
 mod tests;
 

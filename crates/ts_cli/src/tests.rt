@@ -1,26 +1,8 @@
 use super::*;
+use crate::test_runs::{file, run_words};
 use std::alloc::Global;
 use std::test::Fail;
 use ts_site::{CallKind, FaultKind, FileName, MemorySite, MemorySource};
-
-/// Runs words over a folder in memory.
-fn run_words(
-    alloc: Global,
-    site: &mut MemorySite,
-    words: &[&str],
-    input: &[u8],
-) -> Result<Outcome, Fail> {
-    let mut all = Vec::new(alloc);
-    for word in words {
-        all.push(String::from_str(alloc, word)?)?;
-    }
-    Ok(run(alloc, &all, site, &mut MemorySource::new(alloc, input)?))
-}
-
-/// The bytes of a file of the folder.
-fn file<'a>(site: &'a MemorySite, name: &[u8]) -> Result<Option<&'a [u8]>, Fail> {
-    Ok(site.file(&FileName::of(name).ok_or("name")?))
-}
 
 #[test]
 fn the_first_layer_is_made(rt: HostRuntime) -> Result<(), Fail> {

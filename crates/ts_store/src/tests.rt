@@ -186,6 +186,29 @@ fn files_that_are_not_what_their_names_say(rt: HostRuntime) -> Result<(), Fail> 
     Ok(())
 }
 
+/// Whether a step is stopped by the output, or else by the disk.
+fn is_stopped(
+    session: &mut Session,
+    site: &mut MemorySite,
+    command: &Command,
+    by_output: bool,
+) -> bool {
+    match session.step(site, command) {
+        Err(Stop::DiskFault) => !by_output,
+        Err(Stop::OutputFault) => by_output,
+        _ => false,
+    }
+}
+
+/// Whether a spent session answers its stop to `base` and `list`, and makes no call.
+fn is_spent(session: &mut Session, site: &mut MemorySite, body: &Command, by_output: bool) -> bool {
+    let room = site.room();
+    session.spent().is_some()
+        && is_stopped(session, site, body, by_output)
+        && is_stopped(session, site, &list(LayerRef::Number(1)), by_output)
+        && site.room() == room
+}
+
 /// Whether a base stops at the next call of this kind, with the disk or with the output, leaves the layer's file or not, and
 /// tells so much of its reply; and whether the session is then spent.
 fn base_stops(
@@ -200,12 +223,8 @@ fn base_stops(
     let mut session = open(alloc, &mut site)?;
     let body = base(alloc, &[b"<a> <p> <b> ."])?;
     site.fail(kind, 1, how)?;
-    let right = match session.step(&mut site, &body) {
-        Err(Stop::DiskFault) => !with_output,
-        Err(Stop::OutputFault) => with_output,
-        _ => false,
-    };
-    let spent = session.step(&mut site, &body).is_err() && session.spent().is_some();
+    let right = is_stopped(&mut session, &mut site, &body, with_output);
+    let spent = is_spent(&mut session, &mut site, &body, with_output);
     let stands = file_of(&site, b"00000001.layer")?.is_some();
     Ok(right && spent && stands == placed && site.told() == told)
 }
@@ -283,6 +302,36 @@ fn the_output_fails_at_a_question(rt: HostRuntime) -> Result<(), Fail> {
     assert!(rt; asking_stops(alloc, &list(one), b"<a> <p> <b>")?);
     assert!(rt; asking_stops(alloc, &has(alloc, one, b"<a> <p> <b> .")?, b"ye")?);
     assert!(rt; asking_stops(alloc, &has(alloc, one, b"<a> <p> <c> .")?, b"n")?);
+    Ok(())
+}
+
+/// The calls and the bytes of room that a command uses that is to be done.
+fn used(
+    session: &mut Session,
+    site: &mut MemorySite,
+    command: &Command,
+) -> Result<(u64, u64), Fail> {
+    let (calls, bytes) = site.room();
+    done(session, site, command)?;
+    let (calls_left, bytes_left) = site.room();
+    Ok((
+        calls.saturating_sub(calls_left),
+        bytes.saturating_sub(bytes_left),
+    ))
+}
+
+#[test]
+fn a_question_makes_one_call(rt: HostRuntime) -> Result<(), Fail> {
+    let alloc = rt.alloc();
+    let file = b"plain 00000001 none\n+ <a> <p> <b> .\n";
+    let mut site = folder_with(alloc, b"00000001.layer", file)?;
+    let mut session = open(alloc, &mut site)?;
+    let one = LayerRef::Number(1);
+    let yes = has(alloc, one, b"<a> <p> <b> .")?;
+    let no = has(alloc, one, b"<a> <p> <c> .")?;
+    assert_eq!(rt; used(&mut session, &mut site, &list(one))?, (1, 22));
+    assert_eq!(rt; used(&mut session, &mut site, &yes)?, (1, 4));
+    assert_eq!(rt; used(&mut session, &mut site, &no)?, (1, 3));
     Ok(())
 }
 
