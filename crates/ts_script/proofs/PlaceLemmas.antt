@@ -26,21 +26,6 @@ feed-other r text left i j d is lt le read other =
     let not_feed : (d == 10) ≡ false = ne_eqb d 10 other in
     rw (slice_range-first text i j d lt le, sym read, is, not_feed) refl
 
--- what waits is the same where the buffer is the same up to its end
-pub feed-kept : (r : Bool) (old new more : List ℕ) (at i : ℕ) → take at new ≡ take at old
-    → feed_of r (slice_range new i at ++ more) ≡ feed_of r (slice_range old i at ++ more)
-feed-kept r old new more at i same = ap (λ text. feed_of r (text ++ more)) (slice_range-kept old new at i at same (omega arith))
-
--- bytes that come behind what waits
-pub feed-behind : (r : Bool) (old new more : List ℕ) (at i k : ℕ) → take at new ≡ take at old → i ≤ at
-    → feed_of r (slice_range new i (at + k) ++ more) ≡ feed_of r (slice_range old i at ++ (slice_range new at (at + k) ++ more))
-feed-behind r old new more at i k same lo =
-    ap (feed_of r) (
-    ap (λ text. text ++ more) (slice_range-split new i at (at + k) lo (omega arith))
-    ∙ append_assoc (slice_range new i at) (slice_range new at (at + k)) more
-    ∙ ap (λ front. front ++ (slice_range new at (at + k) ++ more)) (slice_range-kept old new at i at same (omega arith))
-    )
-
 -- of a line that is over the limit no line feed before it waits
 pub not_return : (o r : Bool) (i j : ℕ) → (o ≡ true → r ≡ false) → (r ≡ true → i ≡ j) → (o ≡ true) ⊎ (i < j) → r ≡ false
 not_return o r i j one settled (inl is) = one is
