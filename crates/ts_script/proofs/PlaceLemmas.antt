@@ -1,10 +1,10 @@
 -- The place of the next line.
-use Rattle.std.proofs.Common.{◌≡◌, ◌⊎◌, ℕ, ◌+◌, ◌<◌, ◌≤◌, ◌==◌, Bool, true, false, List, [], ◌∷◌, ◌++◌, length, get_or, take, slice_range, refl, sym, ◌∙◌, ap, arith, inl, inr, append_assoc, append-nil}
+use Rattle.std.proofs.Common.{◌≡◌, ◌⊎◌, ℕ, ◌+◌, ◌<◌, ◌≤◌, ◌==◌, Bool, true, false, List, [], ◌∷◌, ◌++◌, length, get_or, slice_range, refl, sym, ap, arith, inl, inr, append-nil}
 use Rattle.std.proofs.lemmas.Bool.{ne_eqb}
 use Rattle.ts_script.specs.Lines.{feed_of}
 use Rattle.ts_script.specs.Cutting.{waiting, place_of_next, place_behind}
 use Rattle.ts_script.specs.declared.cutter.LineCutter.{LineCutter}
-use Rattle.ts_script.proofs.LinesLemmas.{slice_range-first, slice_range-kept, slice_range-split, not_after_return}
+use Rattle.ts_script.proofs.LinesLemmas.{slice_range-first, not_after_return}
 
 -- more bytes take no line feed away
 feed-more : (r : Bool) (text more : List ℕ) → feed_of r text ≤ feed_of r (text ++ more)
