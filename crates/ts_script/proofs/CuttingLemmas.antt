@@ -1,7 +1,7 @@
 -- What several calls on a cutter make together.
 use Rattle.std.proofs.Common.{◌≡◌, ◌+◌, length, ℕ, Bool, true, false, refl, List, [], ◌∷◌, ◌++◌, sym, ◌∙◌, ap, arith, inl, inr, append_assoc, append-nil, length-append}
 use Rattle.ts_script.specs.Lines.{Given}
-use Rattle.ts_script.specs.Cutting.{lines_to_come, place_of_next, place_behind, Keeps, GivesWhole, GivesLine, HasEnded, Takes, Took, IsNext}
+use Rattle.ts_script.specs.Cutting.{lines_to_come, place_of_next, place_behind, end_behind, Keeps, GivesWhole, GivesLine, HasEnded, Takes, Took, IsNext}
 use Rattle.ts_script.specs.declared.cutter.LineCutter.{LineCutter}
 use Rattle.ts_script.proofs.PlaceLemmas.{place-here, place-rises}
 
@@ -13,17 +13,8 @@ keeps-whole a b c line first second = record {
   number = omega (arith, first.number, second.number);
   has_ended = second.has_ended ∙ first.has_ended;
   place = omega (arith, first.place [], place-here a, place-here b, second.place);
+  end = λ left. second.end left ∙ first.end left;
   begins = second.begins;
-}
-
-pub keeps-keeps : (a b c : LineCutter) → Keeps a b → Keeps b c → Keeps a c
-keeps-keeps a b c first second = record {
-  lines = λ left. second.lines left ∙ first.lines left;
-  taken = second.taken ∙ first.taken;
-  limit = second.limit ∙ first.limit;
-  number = second.number ∙ first.number;
-  has_ended = second.has_ended ∙ first.has_ended;
-  place = λ left. second.place left ∙ first.place left;
 }
 
 -- where the next line begins, once these bytes were taken
@@ -37,6 +28,7 @@ takes-keeps a b c bytes first second = record {
   limit = second.limit ∙ first.limit;
   number = second.number ∙ first.number;
   place = λ more. second.place more ∙ first.place more;
+  end = λ more. second.end more ∙ first.end more;
   ended = λ is. second.has_ended ∙ first.ended is;
 }
 
@@ -47,6 +39,7 @@ takes-takes a b c xs ys first second = record {
   limit = second.limit ∙ first.limit;
   number = second.number ∙ first.number;
   place = λ more. second.place more ∙ first.place (ys ++ more) ∙ ap (place_behind a) (sym (append_assoc xs ys more));
+  end = λ more. second.end more ∙ first.end (ys ++ more) ∙ ap (end_behind a) (sym (append_assoc xs ys more));
   ended = λ is. second.ended (first.ended is);
 }
 
@@ -57,6 +50,7 @@ takes-whole a b c bytes line first second = record {
   limit = second.limit ∙ first.limit;
   number = omega (arith, first.number, second.number);
   place = omega (arith, place-rises a bytes, takes-place a b bytes first, second.place);
+  end = sym (place-here c) ∙ second.end [] ∙ first.end [] ∙ ap (end_behind a) (append-nil bytes);
   begins = second.begins;
   ended = λ is. second.has_ended ∙ first.ended is;
 }
@@ -73,6 +67,7 @@ takes-last a b c bytes line first second = record {
   limit = second.limit ∙ first.limit;
   number = omega (arith, first.number, second.number);
   place = omega (arith, place-rises a bytes, takes-place a b bytes first, second.place);
+  end = second.end ∙ first.end [] ∙ ap (end_behind a) (append-nil bytes);
   begins = second.begins;
   ended = λ is. second.ended (first.ended is);
 }

@@ -5,6 +5,7 @@ pub mod BodyLemmas
 pub mod BodySoFar
 pub mod CommandLaws
 pub mod CuttingLemmas
+pub mod EndLemmas
 pub mod LinesLemmas
 pub mod PlaceLemmas
 pub mod WordsLemmas

@@ -11,11 +11,11 @@ is_false : (b : Bool) → (b ≡ true → ⊥) → b ≡ false
 is_false true h = absurd (h refl)
 is_false false h = refl
 
-first_false : (a b : Bool) → (a || b) ≡ false → a ≡ false
+pub first_false : (a b : Bool) → (a || b) ≡ false → a ≡ false
 first_false true b e = e
 first_false false b e = refl
 
-second_false : (a b : Bool) → (a || b) ≡ false → b ≡ false
+pub second_false : (a b : Bool) → (a || b) ≡ false → b ≡ false
 second_false true b e = absurd (cc)
 second_false false b e = e
 
@@ -250,15 +250,13 @@ pub none_found : (text : List ℕ) (r : Option ℕ) → IsFirstByte (is_byte2 10
 none_found text None found = no_end_all text found
 none_found text (Some k) found = tt
 
--- bytes that come behind what waits are still to come
-pub lines_behind-more : (o r : Bool) (old new more : List ℕ) (at i k : ℕ) → take at new ≡ take at old → i ≤ at
-    → lines_behind o r (slice_range new i (at + k) ++ more) ≡ lines_behind o r (slice_range old i at ++ (slice_range new at (at + k) ++ more))
-lines_behind-more o r old new more at i k same lo =
-    ap (lines_behind o r) (
+-- bytes that come behind what waits
+pub waiting-more : (old new more : List ℕ) (at i k : ℕ) → take at new ≡ take at old → i ≤ at
+    → slice_range new i (at + k) ++ more ≡ slice_range old i at ++ (slice_range new at (at + k) ++ more)
+waiting-more old new more at i k same lo =
     ap (λ text. text ++ more) (slice_range-split new i at (at + k) lo (omega arith))
     ∙ append_assoc (slice_range new i at) (slice_range new at (at + k)) more
     ∙ ap (λ front. front ++ (slice_range new at (at + k) ++ more)) (slice_range-kept old new at i at same (omega arith))
-    )
 
 -- the bytes that were taken, and those that are left
 pub taken_front : (old new room : List ℕ) (at k : ℕ) → take k (drop at room) ≡ take k old → new ≡ drop k old → old ≡ slice_range room at (at + k) ++ new
@@ -267,9 +265,8 @@ taken_front old new room at k front rest =
     rw (far, front, rest) (sym (take-append-drop k old))
 
 -- what waits is the same where the buffer is the same up to its end
-pub lines_behind-kept : (o r : Bool) (old new more : List ℕ) (at i : ℕ) → take at new ≡ take at old
-    → lines_behind o r (slice_range new i at ++ more) ≡ lines_behind o r (slice_range old i at ++ more)
-lines_behind-kept o r old new more at i same = ap (λ text. lines_behind o r (text ++ more)) (slice_range-kept old new at i at same (omega arith))
+pub waiting-kept : (old new more : List ℕ) (at i : ℕ) → take at new ≡ take at old → slice_range new i at ++ more ≡ slice_range old i at ++ more
+waiting-kept old new more at i same = ap (λ text. text ++ more) (slice_range-kept old new at i at same (omega arith))
 
 pub no_end-kept : (old new : List ℕ) (at i j : ℕ) → take at new ≡ take at old → j ≤ at → HasNoEnd (slice_range old i j) → HasNoEnd (slice_range new i j)
 no_end-kept old new at i j same le none = rw (slice_range-kept old new at i j same le) none

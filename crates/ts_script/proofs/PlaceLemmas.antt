@@ -1,10 +1,10 @@
 -- The place of the next line.
-use Rattle.std.proofs.Common.{◌≡◌, ◌⊎◌, ℕ, ◌+◌, ◌<◌, ◌≤◌, ◌==◌, Bool, true, false, List, [], ◌∷◌, ◌++◌, length, get_or, take, slice_range, refl, sym, ◌∙◌, ap, arith, inl, inr, append_assoc, append-nil}
+use Rattle.std.proofs.Common.{◌≡◌, ◌⊎◌, ℕ, ◌+◌, ◌<◌, ◌≤◌, ◌==◌, Bool, true, false, List, [], ◌∷◌, ◌++◌, length, get_or, slice_range, refl, sym, ap, arith, inl, inr, append-nil}
 use Rattle.std.proofs.lemmas.Bool.{ne_eqb}
 use Rattle.ts_script.specs.Lines.{feed_of}
 use Rattle.ts_script.specs.Cutting.{waiting, place_of_next, place_behind}
 use Rattle.ts_script.specs.declared.cutter.LineCutter.{LineCutter}
-use Rattle.ts_script.proofs.LinesLemmas.{slice_range-first, slice_range-kept, slice_range-split, not_after_return}
+use Rattle.ts_script.proofs.LinesLemmas.{slice_range-first, not_after_return}
 
 -- more bytes take no line feed away
 feed-more : (r : Bool) (text more : List ℕ) → feed_of r text ≤ feed_of r (text ++ more)
@@ -25,21 +25,6 @@ pub feed-other : (r : Bool) (text left : List ℕ) (i j d : ℕ) → r ≡ true 
 feed-other r text left i j d is lt le read other =
     let not_feed : (d == 10) ≡ false = ne_eqb d 10 other in
     rw (slice_range-first text i j d lt le, sym read, is, not_feed) refl
-
--- what waits is the same where the buffer is the same up to its end
-pub feed-kept : (r : Bool) (old new more : List ℕ) (at i : ℕ) → take at new ≡ take at old
-    → feed_of r (slice_range new i at ++ more) ≡ feed_of r (slice_range old i at ++ more)
-feed-kept r old new more at i same = ap (λ text. feed_of r (text ++ more)) (slice_range-kept old new at i at same (omega arith))
-
--- bytes that come behind what waits
-pub feed-behind : (r : Bool) (old new more : List ℕ) (at i k : ℕ) → take at new ≡ take at old → i ≤ at
-    → feed_of r (slice_range new i (at + k) ++ more) ≡ feed_of r (slice_range old i at ++ (slice_range new at (at + k) ++ more))
-feed-behind r old new more at i k same lo =
-    ap (feed_of r) (
-    ap (λ text. text ++ more) (slice_range-split new i at (at + k) lo (omega arith))
-    ∙ append_assoc (slice_range new i at) (slice_range new at (at + k)) more
-    ∙ ap (λ front. front ++ (slice_range new at (at + k) ++ more)) (slice_range-kept old new at i at same (omega arith))
-    )
 
 -- of a line that is over the limit no line feed before it waits
 pub not_return : (o r : Bool) (i j : ℕ) → (o ≡ true → r ≡ false) → (r ≡ true → i ≡ j) → (o ≡ true) ⊎ (i < j) → r ≡ false

@@ -1,6 +1,6 @@
 -- What a cutter keeps between two lines, and what a call gives.
 use Rattle.std.specs.Prelude.{◌⊎◌, Option, None, Some, Result, Ok, Err, IfOk, IfErr, ◌≡◌, ℕ, ◌+◌, ◌-◌, ◌<◌, ◌≤◌, true, false, List, [], ◌∷◌, ◌++◌, length, slice_range}
-use Rattle.ts_script.specs.Lines.{HasNoEnd, Given, lines_behind, feed_of}
+use Rattle.ts_script.specs.Lines.{HasNoEnd, Given, lines_behind, feed_of, first_length}
 use Rattle.ts_script.specs.declared.cutter.LineCutter.{LineCutter}
 use Rattle.ts_script.specs.declared.cutter.Span.{Span}
 use Rattle.ts_script.specs.declared.cutter.Line.{Line}
@@ -23,7 +23,11 @@ place_of_next c = c.passed + feed_of c.after_return (waiting c)
 abbrev pub place_behind : LineCutter → List ℕ → ℕ
 place_behind c bytes = c.passed + feed_of c.after_return (waiting c ++ bytes)
 
--- the lines to come and the place of the next one stay, whatever is left in the source, and so do the counts
+-- the place behind the next line and its end, once these bytes were taken
+abbrev pub end_behind : LineCutter → List ℕ → ℕ
+end_behind c bytes = c.taken - (c.end - c.start) + first_length c.after_return (waiting c ++ bytes)
+
+-- the lines to come stay, whatever is left in the source, and so do where the next one begins and ends, and the counts
 pub record Keeps (old new : LineCutter) : Type 0 where
   pub lines : (left : List ℕ) → lines_to_come new left ≡ lines_to_come old left
   pub taken : new.taken ≡ old.taken
@@ -31,6 +35,7 @@ pub record Keeps (old new : LineCutter) : Type 0 where
   pub number : new.number ≡ old.number
   pub has_ended : new.has_ended ≡ old.has_ended
   pub place : (left : List ℕ) → place_behind new left ≡ place_behind old left
+  pub end : (left : List ℕ) → end_behind new left ≡ end_behind old left
 
 -- no whole line waits, and what waits is no more than a line may have
 pub record HasNoLine (c : LineCutter) : Type 0 where
@@ -47,7 +52,8 @@ line_at c span = record { bytes = slice_range c.buffer.items span.from span.to; 
 abbrev pub shown : Line → Given
 shown line = record { bytes = line.bytes.now; too_long = line.too_long }
 
--- The line is the next one, whatever is left in the source, and what follows it is still to come.
+-- The line is the next one, whatever is left in the source, and what follows it is still to come. The line behind it
+-- begins where it ends, and no byte of that one was let go.
 pub record GivesWhole (old new : LineCutter) (line : Given) : Type 0 where
   pub lines : (left : List ℕ) → lines_to_come old left ≡ line ∷ lines_to_come new left
   pub taken : new.taken ≡ old.taken
@@ -55,16 +61,18 @@ pub record GivesWhole (old new : LineCutter) (line : Given) : Type 0 where
   pub number : new.number ≡ old.number + 1
   pub has_ended : new.has_ended ≡ old.has_ended
   pub place : place_of_next old < place_of_next new
+  pub end : (left : List ℕ) → place_behind new left ≡ end_behind old left
   pub begins : new.is_overlong ≡ false
 
--- The lines to come are those of before, once these bytes were taken, and the place of the next one is that of
--- before, behind a line feed that belongs to the last end.
+-- The lines to come are those of before, once these bytes were taken, and so is where the next one begins and ends. It
+-- begins where it began, or behind a line feed among these bytes that belongs to the end before.
 pub record Takes (old new : LineCutter) (bytes : List ℕ) : Type 0 where
   pub lines : (more : List ℕ) → lines_to_come new more ≡ lines_to_come old (bytes ++ more)
   pub taken : new.taken ≡ old.taken + length bytes
   pub limit : new.limit ≡ old.limit
   pub number : new.number ≡ old.number
   pub place : (more : List ℕ) → place_behind new more ≡ place_behind old (bytes ++ more)
+  pub end : (more : List ℕ) → end_behind new more ≡ end_behind old (bytes ++ more)
   pub ended : old.has_ended ≡ true → new.has_ended ≡ true
 
 -- After these bytes the line is the next one, whatever follows; or the input ends with them, and it is the last.
@@ -73,17 +81,19 @@ IsNext old new bytes line =
     ((more : List ℕ) → lines_to_come old (bytes ++ more) ≡ line ∷ lines_to_come new more)
     ⊎ ((new.has_ended ≡ true) × (lines_to_come old bytes ≡ line ∷ []) × (lines_to_come new [] ≡ []))
 
--- The next line is given once these bytes were taken. No byte of the line behind it was let go.
+-- The next line is given once these bytes were taken. The line behind it begins where it ends, and no byte of that one
+-- was let go.
 pub record GivesLine (old new : LineCutter) (bytes : List ℕ) (line : Given) : Type 0 where
   pub next : IsNext old new bytes line
   pub taken : new.taken ≡ old.taken + length bytes
   pub limit : new.limit ≡ old.limit
   pub number : new.number ≡ old.number + 1
   pub place : place_of_next old < place_of_next new
+  pub end : place_of_next new ≡ end_behind old bytes
   pub begins : new.is_overlong ≡ false
   pub ended : old.has_ended ≡ true → new.has_ended ≡ true
 
--- the input has ended with these bytes, and no line is left
+-- The input has ended with these bytes, and no line is left. A line feed among them belongs to the end before.
 pub record HasEnded (old new : LineCutter) (bytes : List ℕ) : Type 0 where
   pub ended : new.has_ended ≡ true
   pub none : lines_to_come old bytes ≡ []

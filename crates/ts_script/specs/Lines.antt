@@ -1,5 +1,5 @@
 -- The lines of a text.
-use Rattle.std.specs.Prelude.{◌≡◌, ℕ, ◌==◌, ◌||◌, nat_le, Bool, true, false, if◌then◌else◌, List, [], ◌∷◌, length, map, drop, refl}
+use Rattle.std.specs.Prelude.{◌≡◌, ℕ, ◌+◌, ◌==◌, ◌||◌, nat_le, Bool, true, false, if◌then◌else◌, List, [], ◌∷◌, length, map, drop, refl}
 use Rattle.std.specs.List.{list_any}
 
 -- how many bytes a line may have, without its end
@@ -38,6 +38,15 @@ feed_of false text = 0
 feed_of true [] = 0
 feed_of true (b ∷ text) = if b == 10 then 1 else 0
 
+-- How many bytes the first line takes up with its end. A line feed at the front that belongs to the end before is one
+-- of them.
+unfoldable pub first_length : Bool → List ℕ → ℕ
+first_length after_return [] = 0
+first_length after_return (b ∷ text) =
+    if b == 13 then 1 + feed_of true text
+    else if b == 10 then (if after_return then 1 + first_length false text else 1)
+    else 1 + first_length false text
+
 -- a line as it is given: without its bytes where it is over the limit
 pub record Given : Type 0 where
   pub bytes : List ℕ
@@ -68,3 +77,8 @@ lines-example = refl
 lines-ended : lines_of (97 ∷ 13 ∷ 10 ∷ []) ≡ (97 ∷ []) ∷ []
 unfolding lines_after
 lines-ended = refl
+
+-- the line feed of the end before, `a`, and both bytes of its end
+first_length-example : first_length true (10 ∷ 97 ∷ 13 ∷ 10 ∷ 98 ∷ []) ≡ 4
+unfolding first_length
+first_length-example = refl

@@ -1,10 +1,14 @@
-use Rattle.std.proofs.Common.{◌≡◌, ◌+◌, ◌++◌, ◌-◌, Bool, [], ℕ, true, false, length, drop, slice_range, refl, sym, ◌∙◌, ap, arith, inl, inr}
-use Rattle.ts_script.proofs.LinesLemmas.{lines_behind-more, lines_behind-kept, no_end-kept, taken_front, length-slice_range}
-use Rattle.ts_script.proofs.PlaceLemmas.{feed-kept, feed-behind}
+use Rattle.std.proofs.Common.{◌≡◌, ◌+◌, ◌++◌, ◌-◌, Bool, List, [], ℕ, ◌≤◌, true, false, length, drop, slice_range, refl, sym, ◌∙◌, ap, arith, inl, inr}
+use Rattle.ts_script.proofs.LinesLemmas.{waiting-more, waiting-kept, no_end-kept, taken_front, length-slice_range}
+use Rattle.ts_script.specs.Lines.{lines_behind, feed_of, first_length}
 use Rattle.ts_script.proofs.cutter.LineCutter.fill.Goals as goal
 
 is_open : (new old : Bool) → new ≡ old → old ≡ false → new ≡ true → ⊥
 is_open new old same opened is = let e : true ≡ false = sym is ∙ same ∙ opened in absurd (cc)
+
+-- what was taken stands behind what waits
+gone : (taken end start k n : ℕ) → start ≤ end → end - start ≤ taken → taken + k - (end + k - start) + n ≡ taken - (end - start) + n
+gone taken end start k n lo within = omega arith
 
 pub invariant_of-self-clause-no_end : goal.invariant_of-self-clause-no_end
 invariant_of-self-clause-no_end g c =
@@ -30,11 +34,12 @@ returns-in-Err-clause-takes g c =
       [],
       record {
         takes = record {
-          lines = λ more. lines_behind-kept mid.is_overlong mid.after_return mid.buffer.items after more mid.end mid.start c.take_into.ensures.before ∙ made.takes.lines more;
+          lines = λ more. ap (lines_behind mid.is_overlong mid.after_return) (waiting-kept mid.buffer.items after more mid.end mid.start c.take_into.ensures.before) ∙ made.takes.lines more;
           taken = made.takes.taken;
           limit = made.takes.limit;
           number = made.takes.number;
-          place = λ more. ap (λ (n : ℕ). mid.passed + n) (feed-kept mid.after_return mid.buffer.items after more mid.end mid.start c.take_into.ensures.before) ∙ made.takes.place more;
+          place = λ more. ap (λ (text : List ℕ). mid.passed + feed_of mid.after_return text) (waiting-kept mid.buffer.items after more mid.end mid.start c.take_into.ensures.before) ∙ made.takes.place more;
+          end = λ more. ap (λ (text : List ℕ). mid.taken - (mid.end - mid.start) + first_length mid.after_return text) (waiting-kept mid.buffer.items after more mid.end mid.start c.take_into.ensures.before) ∙ made.takes.end more;
           ended = λ is. made.ended ∙ is;
         };
         cause = (
@@ -62,11 +67,12 @@ returns-in-Ok-eq0-clause-takes g c =
       [],
       record {
         takes = record {
-          lines = λ more. lines_behind-kept mid.is_overlong mid.after_return mid.buffer.items after more mid.end mid.start c.take_into.ensures.before ∙ made.takes.lines more;
+          lines = λ more. ap (lines_behind mid.is_overlong mid.after_return) (waiting-kept mid.buffer.items after more mid.end mid.start c.take_into.ensures.before) ∙ made.takes.lines more;
           taken = made.takes.taken;
           limit = made.takes.limit;
           number = made.takes.number;
-          place = λ more. ap (λ (n : ℕ). mid.passed + n) (feed-kept mid.after_return mid.buffer.items after more mid.end mid.start c.take_into.ensures.before) ∙ made.takes.place more;
+          place = λ more. ap (λ (text : List ℕ). mid.passed + feed_of mid.after_return text) (waiting-kept mid.buffer.items after more mid.end mid.start c.take_into.ensures.before) ∙ made.takes.place more;
+          end = λ more. ap (λ (text : List ℕ). mid.taken - (mid.end - mid.start) + first_length mid.after_return text) (waiting-kept mid.buffer.items after more mid.end mid.start c.take_into.ensures.before) ∙ made.takes.end more;
           ended = λ is. refl;
         };
         cause = tt;
@@ -100,13 +106,16 @@ returns-in-Ok-clause-takes g c =
       slice_range after mid.end (mid.end + k),
       record {
         takes = record {
-          lines = λ more. lines_behind-more mid.is_overlong mid.after_return mid.buffer.items after more mid.end mid.start k c.take_into.ensures.before (omega arith)
+          lines = λ more. ap (lines_behind mid.is_overlong mid.after_return) (waiting-more mid.buffer.items after more mid.end mid.start k c.take_into.ensures.before (omega arith))
               ∙ made.takes.lines (slice_range after mid.end (mid.end + k) ++ more);
           taken = omega arith;
           limit = made.takes.limit;
           number = made.takes.number;
-          place = λ more. ap (λ (n : ℕ). mid.passed + n) (feed-behind mid.after_return mid.buffer.items after more mid.end mid.start k c.take_into.ensures.before (omega arith))
+          place = λ more. ap (λ (text : List ℕ). mid.passed + feed_of mid.after_return text) (waiting-more mid.buffer.items after more mid.end mid.start k c.take_into.ensures.before (omega arith))
               ∙ made.takes.place (slice_range after mid.end (mid.end + k) ++ more);
+          end = λ more. gone mid.taken mid.end mid.start k _ (omega arith) (omega arith)
+              ∙ ap (λ (text : List ℕ). mid.taken - (mid.end - mid.start) + first_length mid.after_return text) (waiting-more mid.buffer.items after more mid.end mid.start k c.take_into.ensures.before (omega arith))
+              ∙ made.takes.end (slice_range after mid.end (mid.end + k) ++ more);
           ended = λ is. made.ended ∙ is;
         };
         cause = tt;

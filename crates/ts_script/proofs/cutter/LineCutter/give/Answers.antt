@@ -1,6 +1,8 @@
-use Rattle.std.proofs.Common.{refl, arith, ◌+◌}
+use Rattle.std.proofs.Common.{refl, arith, ◌+◌, ◌++◌, ◌∙◌, ap, Bool}
 use Rattle.ts_script.proofs.LinesLemmas.{lines_behind-front, not_after_return, is_end-read, no_end-empty}
 use Rattle.ts_script.proofs.PlaceLemmas.{feed-none}
+use Rattle.ts_script.proofs.EndLemmas.{first_length-end}
+use Rattle.ts_script.specs.Lines.{first_length}
 use Rattle.ts_script.specs.Cutting.{waiting}
 use Rattle.ts_script.proofs.cutter.LineCutter.give.Goals as goal
 
@@ -18,6 +20,12 @@ returns-clause-gives c =
       number = refl;
       has_ended = refl;
       place = omega (arith, feed-none old.after_return (waiting old) (not_after_return old.after_return old.start old.end c.requires.settled (omega arith)));
+      end = λ left.
+          let settled = not_after_return old.after_return old.start old.end c.requires.settled (omega arith) in
+          let read = is_end-read old.buffer.items c.args.at c.index.result.now (omega arith) c.index.ensures c.requires.end in
+          let far = ap (λ (r : Bool). first_length r (waiting old ++ left)) settled
+          ∙ first_length-end old.buffer.items left old.start c.args.at old.end c.index.result.now (omega arith) (omega arith) (omega arith) c.requires.no_end read c.index.ensures in
+          omega (arith, far);
       begins = refl;
     }
 

@@ -1,8 +1,14 @@
-use Rattle.std.proofs.Common.{◌≡◌, ◌⊎◌, ◌<◌, ◌-◌, true, false, length, refl, sym, arith, inl, inr}
+use Rattle.std.proofs.Common.{◌≡◌, ◌⊎◌, ◌<◌, ◌-◌, ℕ, Bool, List, slice_range, true, false, length, refl, sym, arith, inl, inr}
 use Rattle.ts_script.specs.Cutting.{waiting}
 use Rattle.ts_script.proofs.LinesLemmas.{lines_behind-last, lines_behind-nil, no_end-empty, length-slice_range, not_after_return}
 use Rattle.ts_script.proofs.PlaceLemmas.{place-here, not_return, feed-none}
+use Rattle.ts_script.proofs.EndLemmas.{first_length-last}
+use Rattle.ts_script.specs.Lines.{feed_of}
 use Rattle.ts_script.proofs.cutter.LineCutter.last_line.Goals as goal
+
+feed-nothing : (r : Bool) (text : List ℕ) (i : ℕ) → feed_of r (slice_range text i i) ≡ 0
+feed-nothing false text i = refl
+feed-nothing true text i = let none : i - i ≡ 0 = omega arith in rw none refl
 
 pub invariant_of-self-clause-no_end : goal.invariant_of-self-clause-no_end
 invariant_of-self-clause-no_end c = no_end-empty c.args.self.now.buffer.items c.args.self.now.end
@@ -33,6 +39,9 @@ returns-clause-some c =
         c.has_rest.ensures.some c.if-not-has_rest.false,
         feed-none old.after_return (waiting old) (not_return old.is_overlong old.after_return old.start old.end old.one_of_two c.requires.none.settled (c.has_rest.ensures.what c.if-not-has_rest.false)),
       );
+      end =
+          let last = first_length-last old.after_return (waiting old) (λ more. not_after_return old.after_return old.start old.end c.requires.none.settled (omega arith)) c.requires.none.no_end in
+          omega (arith, feed-nothing old.after_return old.buffer.items old.end, last, long);
       begins = refl;
       ended = λ is. is;
     }

@@ -1,7 +1,9 @@
-use Rattle.std.proofs.Common.{◌≡◌, ◌⊎◌, ℕ, ◌+◌, ◌<◌, ◌-◌, ◌++◌, true, length, refl, sym, ◌∙◌, ap, arith, inl, inr}
+use Rattle.std.proofs.Common.{◌≡◌, ◌⊎◌, ℕ, ◌+◌, ◌<◌, ◌-◌, ◌++◌, Bool, true, length, refl, sym, ◌∙◌, ap, arith, inl, inr}
 use Rattle.ts_script.specs.Cutting.{waiting}
 use Rattle.ts_script.proofs.LinesLemmas.{lines_behind-gone, not_after_return, length-slice_range}
 use Rattle.ts_script.proofs.PlaceLemmas.{feed-none, not_return}
+use Rattle.ts_script.proofs.EndLemmas.{first_length-front}
+use Rattle.ts_script.specs.Lines.{first_length}
 use Rattle.ts_script.proofs.cutter.LineCutter.let_go.Goals as goal
 use Rattle.ts_script.proofs.cutter.LineCutter.let_go.Goals.{then-self-via-then-self, then-self-via-else-self+then-self-gt-LINE_LIMIT}
 
@@ -22,4 +24,8 @@ returns-then-self-clause-keeps c =
       number = refl;
       has_ended = refl;
       place = λ left. ap (λ (n : ℕ). old.passed + n) (feed-none old.after_return left no_return ∙ sym (feed-none old.after_return (waiting old ++ left) no_return));
+      end = λ left.
+          let here = ap (λ (r : Bool). first_length r left) no_return in
+          let far = ap (λ (r : Bool). first_length r (waiting old ++ left)) no_return ∙ first_length-front (waiting old) left c.requires.no_end in
+          omega (arith, here, far, long);
     }
