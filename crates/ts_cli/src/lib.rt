@@ -2,12 +2,12 @@
 //!
 //! - [`run`] does what the words ask for.
 //! - [`Outcome`] is what it came to, and [`Stop`] why it ended early, if it did; [`stopped`] is the outcome of
-//!   a stop before anything was done.
+//!   a run that a stop ended.
 //! - [`stop_line`] spells a stop as a [`StopLine`].
 //!
-//! The contract that the program uses is `run`'s: what was told is the reply of the step that the words and the
-//! input ask for, from the history that the folder tells; the folder is the one after it, and each other answer has
-//! its cause.
+//! The contract that the program uses is `run`'s: on a folder that stands for a history, what was told is the
+//! plain history's replies to the commands that words and input ask for; the folder stands for the history after them,
+//! and each other answer has its cause.
 #![tactic(auto)]
 
 #[cfg(test)]

@@ -7,7 +7,8 @@ use ts_script::ReplyLine;
 use ts_site::FileName;
 use ts_store::{Kind, Stop};
 
-/// What a run came to: its exit status, how many steps were told whole, and why it stopped, if it did.
+/// What a run came to: its exit status, how many steps' replies were told whole by calls that all succeeded, and why it
+/// stopped, if it did.
 #[derive(Debug, Drop)]
 pub struct Outcome {
     pub status: u8,
@@ -29,7 +30,7 @@ pub(crate) fn answered(kind: Kind) -> Outcome
     }
 }
 
-/// A run that stopped before a reply was told whole.
+/// A run that a stop ended: no step is counted.
 pub fn stopped(stop: Stop) -> Outcome
     ensures { result ≡ outcome_of (Err stop) }
 {

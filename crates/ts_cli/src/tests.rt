@@ -1,5 +1,5 @@
 use super::*;
-use crate::test_runs::{file, run_words};
+use crate::test_runs::{file, run_from, run_words};
 use std::alloc::Global;
 use std::test::Fail;
 use ts_site::{CallKind, FaultKind, FileName, MemorySite, MemorySource};
@@ -80,12 +80,16 @@ fn refuses(alloc: Global, input: &[u8], wanted: &[u8]) -> Result<bool, Fail> {
     )
 }
 
+/// A page of triples with a comment, a blank line and a comment behind a triple.
+const PAGE: &[u8] =
+    b"# one page\r\n\r\n<http://example.org/cafe> <http://www.w3.org/2000/01/rdf-schema#label> \"Caf\\u00E9 \\\"X\\\"\"@fr .\r\n<http://example.org/cafe> <http://www.w3.org/1999/02/22-rdf-syntax-ns#type> <http://example.org/Cafe> . # kind\r\n<http://example.org/cafe> <http://example.org/seats> \"42\"^^<http://www.w3.org/2001/XMLSchema#integer> .\r\n";
+
 #[test]
 fn a_page_with_carriage_returns(rt: HostRuntime) -> Result<(), Fail> {
     assert!(rt;
         makes(
             rt.alloc(),
-            b"# one page\r\n\r\n<http://example.org/cafe> <http://www.w3.org/2000/01/rdf-schema#label> \"Caf\\u00E9 \\\"X\\\"\"@fr .\r\n<http://example.org/cafe> <http://www.w3.org/1999/02/22-rdf-syntax-ns#type> <http://example.org/Cafe> . # kind\r\n<http://example.org/cafe> <http://example.org/seats> \"42\"^^<http://www.w3.org/2001/XMLSchema#integer> .\r\n",
+            PAGE,
             b"plain 00000001 none\n+ <http://example.org/cafe> <http://example.org/seats> \"42\"^^<http://www.w3.org/2001/XMLSchema#integer> .\n+ <http://example.org/cafe> <http://www.w3.org/1999/02/22-rdf-syntax-ns#type> <http://example.org/Cafe> .\n+ <http://example.org/cafe> <http://www.w3.org/2000/01/rdf-schema#label> \"Caf\xC3\xA9 \\\"X\\\"\"@fr .\n"
         )?
     );
@@ -192,9 +196,11 @@ fn a_line_over_its_limit(rt: HostRuntime) -> Result<(), Fail> {
     Ok(())
 }
 
-/// Whether words are answered as no command.
+/// Whether words are answered as no command, over an input that fails where it is touched.
 fn is_usage(alloc: Global, site: &mut MemorySite, words: &[&str]) -> Result<bool, Fail> {
-    let outcome = run_words(alloc, site, words, b"<a> <p> <b> .\n")?;
+    let mut input = MemorySource::new(alloc, b"<a> <p> <b> .\n")?;
+    input.fail(1);
+    let outcome = run_from(alloc, site, words, &mut input)?;
     Ok(matches!(&outcome.stop, Some(Stop::Usage)) && outcome.status == 2 && outcome.done == 0)
 }
 
@@ -372,7 +378,7 @@ fn a_page_is_listed_in_birth_order(rt: HostRuntime) -> Result<(), Fail> {
     assert!(rt;
         lists(
             rt.alloc(),
-            b"<http://example.org/cafe> <http://www.w3.org/2000/01/rdf-schema#label> \"Caf\\u00E9 \\\"X\\\"\"@fr .\r\n<http://example.org/cafe> <http://www.w3.org/1999/02/22-rdf-syntax-ns#type> <http://example.org/Cafe> .\r\n<http://example.org/cafe> <http://example.org/seats> \"42\"^^<http://www.w3.org/2001/XMLSchema#integer> .\r\n",
+            PAGE,
             b"<http://example.org/cafe> <http://example.org/seats> \"42\"^^<http://www.w3.org/2001/XMLSchema#integer> .\n<http://example.org/cafe> <http://www.w3.org/1999/02/22-rdf-syntax-ns#type> <http://example.org/Cafe> .\n<http://example.org/cafe> <http://www.w3.org/2000/01/rdf-schema#label> \"Caf\xC3\xA9 \\\"X\\\"\"@fr .\ntotal 3\n"
         )?
     );
@@ -463,7 +469,7 @@ fn a_damaged_file_is_named(rt: HostRuntime) -> Result<(), Fail> {
     let alloc = rt.alloc();
     let mut site = MemorySite::new(alloc, 20, 1000)?;
     let name = FileName::of(b"00000001.layer").ok_or("name")?;
-    site.put_file(&name, b"plain 00000001 none\n+ <a> <p> <b>\n")?;
+    site.put_file(&name, b"plain 00000001 none\n+ <a> <p> <b> .")?;
     let outcome = run_words(alloc, &mut site, &["list", "00000001"], b"")?;
     assert_eq!(rt; outcome.status, 3);
     assert_eq!(rt; outcome.done, 0);

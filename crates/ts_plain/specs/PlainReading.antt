@@ -9,7 +9,7 @@ use Rattle.ts_plain.specs.PlainFile.{change_lines}
 abbrev pub HasNoEnd : List ℕ → Type 0
 HasNoEnd text = All (λ byte. byte ≢ 0x0A) text
 
--- a parent has a number, which is less than the layer's
+-- a parent's number is at least 1 and less than the layer's
 abbrev pub IsParent : ℕ → Option ℕ → Type 0
 IsParent number parent = IfSome parent (λ p. (1 ≤ p) × (p < number))
 

@@ -9,7 +9,7 @@ abbrev pub FitsParent : ℕ → Option ℕ → List Fact → Type 0
 FitsParent number None removals = removals ≡ []
 FitsParent number (Some parent) removals = parent < number
 
--- the layer has a number, and so has its parent; additions and removals rise, and no triple stands in both
+-- the layer's number and its parent's are at least 1; additions and removals rise, and no triple stands in both
 pub record KeepsPlainRules (number : ℕ) (parent : Option ℕ) (additions removals : List Fact) : Type 0 where
   pub numbered : 1 ≤ number
   pub parented : IfSome parent (λ p. 1 ≤ p)

@@ -23,7 +23,7 @@ const ROOM: usize = LINE_LIMIT + PIECE;
 pub enum InputStop {
     /// The source failed.
     Fault,
-    /// As many bytes were taken as the limit allows, and no whole line of them is left.
+    /// As many bytes were taken as the limit allows, no whole line of them is left, and the end wasn't seen.
     Limit,
 }
 

@@ -5,8 +5,8 @@ ghost use Rattle.ts_model.specs.declared.signed.SignedTriple.{SignedTriple};
 ghost use Rattle.ts_script.specs.Words.{IsCommand, IsNoCommand};
 ghost use Rattle.ts_script.specs.declared.command.Command.{Command};
 
-/// Words and the lines behind them are one command, or none exactly where the words are none. Each line of a body
-/// names a triple in its canonical spelling.
+/// Words and the lines behind them are one command, or none exactly where the words are none. Each triple of a body
+/// is of canonical terms within their limits.
 pub fn one_command()
     ensures once { (words : List (List ℕ)) (before : ℕ) (lines : List (List ℕ)) (a b : Command) → IsCommand words before lines a → IsCommand words before lines b → a ≡ b }
     ensures none { (words : List (List ℕ)) (before : ℕ) (lines : List (List ℕ)) (asked : Command) → IsNoCommand words → IsCommand words before lines asked → ⊥ }

@@ -9,7 +9,7 @@ use std::alloc::AllocError;
 pub enum ScriptStop {
     /// The source failed.
     Fault,
-    /// As many bytes were taken as the limit allows, and no whole line of them is left.
+    /// As many bytes were taken as the limit allows, no whole line of them is left, and the end wasn't seen.
     Limit,
     /// Memory ran out.
     Memory,
