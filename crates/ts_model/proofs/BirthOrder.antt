@@ -6,8 +6,8 @@ use Rattle.std.specs.Ordering.{nat_cmp, ordering_then}
 use Rattle.std.specs.Cmp.{IsTotalOrder, nat_cmp_total, on_total, then_total}
 use Rattle.std.specs.Cmp.Lexicographic.{slice_cmp, nat_list_cmp_total}
 use Rattle.std.specs.FinMap.{IsAntisymmetric}
-use Rattle.ts_model.specs.Spelled.{Spelled}
-use Rattle.ts_model.specs.Fact.{Fact}
+use Rattle.ts_model.specs.TextTerm.{TextTerm}
+use Rattle.ts_model.specs.TextTriple.{TextTriple}
 use Rattle.ts_model.specs.Order.{kind_place, term_cmp, term_cmp-IsAntisymmetric}
 use Rattle.ts_model.specs.History.{History}
 use Rattle.ts_model.specs.Birth.{birth_of}
@@ -21,13 +21,13 @@ both_equal Greater b e = let none : ⊥ = cc in absurd none
 module _ (history : History) (k : ℕ) where
   pub key_cmp_total : IsTotalOrder (key_cmp history k)
   key_cmp_total =
-      then_total (on_total (λ (term : Spelled). unwrap_or (birth_of history k term) 0) nat_cmp_total)
-      (then_total (on_total (λ (term : Spelled). kind_place term.kind) nat_cmp_total) (on_total (λ (term : Spelled). term.spelling) nat_list_cmp_total))
+      then_total (on_total (λ (term : TextTerm). unwrap_or (birth_of history k term) 0) nat_cmp_total)
+      (then_total (on_total (λ (term : TextTerm). kind_place term.kind) nat_cmp_total) (on_total (λ (term : TextTerm). term.spelling) nat_list_cmp_total))
 
   pub birth_cmp_total : IsTotalOrder (birth_cmp history k)
   birth_cmp_total =
-      then_total (on_total (λ (fact : Fact). fact.subject) key_cmp_total)
-      (then_total (on_total (λ (fact : Fact). fact.predicate) key_cmp_total) (on_total (λ (fact : Fact). fact.object) key_cmp_total))
+      then_total (on_total (λ (triple : TextTriple). triple.subject) key_cmp_total)
+      (then_total (on_total (λ (triple : TextTriple). triple.predicate) key_cmp_total) (on_total (λ (triple : TextTriple). triple.object) key_cmp_total))
 
   -- two terms of one kind and one spelling are one, whatever their births
   pub key_cmp-IsAntisymmetric : IsAntisymmetric (key_cmp history k)

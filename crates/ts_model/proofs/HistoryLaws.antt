@@ -2,7 +2,7 @@
 use Rattle.std.proofs.Common.{◌≡◌, ℕ, cond, reverse, zero, suc, ◌<◌, ◌≤◌, true, List, [], ◌∷◌, Option, Some, None, IsTrue, IfSome, true≢false, refl, sym, ap, ◌∙◌, arith}
 use Rattle.std.specs.Option.{is_some, option_and_then}
 use Rattle.std.specs.FinMap.{get, contains_key}
-use Rattle.ts_model.specs.Spelled.{Spelled}
+use Rattle.ts_model.specs.TextTerm.{TextTerm}
 use Rattle.ts_model.specs.Birth.{mentions, first_place, birth_of}
 use Rattle.ts_model.specs.History.{LayerRecord, History, IsWellKept, parent_at, chain_within, chain_of}
 
@@ -49,7 +49,7 @@ module _ (history : History) (kept : IsWellKept history) where
       below (Some p) h = same_within k p p (omega arith) (omega arith) (found history p h.1)
 
   -- a base bears what it mentions with the birth 0
-  pub birth_of-base : (k : ℕ) (layer : LayerRecord) → get history k ≡ Some layer → layer.parent ≡ None → (term : Spelled) → mentions history term k ≡ true → birth_of history k term ≡ Some 0
+  pub birth_of-base : (k : ℕ) (layer : LayerRecord) → get history k ≡ Some layer → layer.parent ≡ None → (term : TextTerm) → mentions history term k ≡ true → birth_of history k term ≡ Some 0
   birth_of-base k layer is base term here =
       ap (λ chain. first_place (mentions history term) (reverse chain)) (chain_of-parent k layer is ∙ ap (λ parent. k ∷ chain_from history parent) base)
       ∙ ap (λ b. cond b (Some 0) None) here

@@ -1,6 +1,6 @@
 pub mod BirthOrder
 pub mod CharLemmas
-pub mod FactSets
+pub mod TripleSets
 pub mod Fronts
 pub mod HistoryLaws
 pub mod IriLaws

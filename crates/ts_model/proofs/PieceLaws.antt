@@ -11,7 +11,7 @@ use Rattle.ts_model.specs.Pieces.{EndsAt}
 pub none_is_some : {X : Type 0} (x : X) → ◌≡◌ {A = Option X} None (Some x) → ⊥
 none_is_some x e = cc
 
--- a test that answered false, where the fact does not hold
+-- a test that answered false, where the triple does not hold
 pub answers_false : {P : Type 0} → (P → ⊥) → IsTrue false ↔ P
 answers_false fails = (λ e. absurd (true≢false (sym e)), λ p. absurd (fails p))
 

@@ -13,16 +13,16 @@ use Rattle.std.proofs.lemmas.List.Sorted.{list_any-IsPermutation}
 use Rattle.std.specs.FinMap as finmap
 use Rattle.std.specs.FinMap.{IsAntisymmetric}
 use Rattle.std.specs.FinMap.Entries.{below_all, is_sorted}
-use Rattle.ts_model.specs.Sets.{SetOf, marked, contains, members, size, from_list, retain}
+use Rattle.ts_model.specs.Sets.{SetOf, unit_entries, contains, members, size, from_list, retain}
 use Rattle.ts_model.proofs.ListLaws.{list_any-map, list_any-dedup, IsStrictlySortedBy-map}
 
-keys-marked : {K : Type 0} (keys : List K) → map (λ (e : K × Unit {0}). e.0) (marked keys) ≡ keys
-keys-marked [] = refl
-keys-marked (k ∷ ks) = ap (λ l. k ∷ l) (keys-marked ks)
+keys-unit_entries : {K : Type 0} (keys : List K) → map (λ (e : K × Unit {0}). e.0) (unit_entries keys) ≡ keys
+keys-unit_entries [] = refl
+keys-unit_entries (k ∷ ks) = ap (λ l. k ∷ l) (keys-unit_entries ks)
 
-marked-keys : {K : Type 0} (entries : List (K × Unit {0})) → marked (map (λ (e : K × Unit {0}). e.0) entries) ≡ entries
-marked-keys [] = refl
-marked-keys (e ∷ es) = ap (λ l. e ∷ l) (marked-keys es)
+unit_entries-keys : {K : Type 0} (entries : List (K × Unit {0})) → unit_entries (map (λ (e : K × Unit {0}). e.0) entries) ≡ entries
+unit_entries-keys [] = refl
+unit_entries-keys (e ∷ es) = ap (λ l. e ∷ l) (unit_entries-keys es)
 
 is_less : (r : Ordering) → r ≡ Less → T (is_lt r)
 is_less r e = subst (λ o. T (is_lt o)) (sym e) tt
@@ -58,31 +58,31 @@ kept false None = refl
 kept false (Some u) = refl
 
 module _ {K : Type 0} (R : K → K → Ordering) where
-  is_some-find : (q : K) (keys : List K) → is_some (finmap.find R q (marked keys)) ≡ list_any (eq_by_cmp R q) keys
+  is_some-find : (q : K) (keys : List K) → is_some (finmap.find R q (unit_entries keys)) ≡ list_any (eq_by_cmp R q) keys
   is_some-find q [] = refl
-  is_some-find q (k ∷ ks) = elim (eq_by_cmp R q k) as (λ b. is_some (cond b (Some tt) (finmap.find R q (marked ks))) ≡ (b || list_any (eq_by_cmp R q) ks)) [ true ↦ refl | false ↦ is_some-find q ks ]
+  is_some-find q (k ∷ ks) = elim (eq_by_cmp R q k) as (λ b. is_some (cond b (Some tt) (finmap.find R q (unit_entries ks))) ≡ (b || list_any (eq_by_cmp R q) ks)) [ true ↦ refl | false ↦ is_some-find q ks ]
 
-  below-marked : (x : K) (keys : List K) → AllByRecursion (λ y. R x y ≡ Less) keys → T (below_all R x (marked keys))
-  below-marked x [] h = tt
-  below-marked x (k ∷ ks) h = both _ _ (is_less _ h.0) (below-marked x ks h.1)
+  below-unit_entries : (x : K) (keys : List K) → AllByRecursion (λ y. R x y ≡ Less) keys → T (below_all R x (unit_entries keys))
+  below-unit_entries x [] h = tt
+  below-unit_entries x (k ∷ ks) h = both _ _ (is_less _ h.0) (below-unit_entries x ks h.1)
 
-  all-below : (x : K) (keys : List K) → T (below_all R x (marked keys)) → AllByRecursion (λ y. R x y ≡ Less) keys
+  all-below : (x : K) (keys : List K) → T (below_all R x (unit_entries keys)) → AllByRecursion (λ y. R x y ≡ Less) keys
   all-below x [] h = tt
   all-below x (k ∷ ks) h = (less_is _ (first _ _ h), all-below x ks (second (is_lt (R x k)) _ h))
 
-  sorted-marked : (keys : List K) → IsStrictlySortedBy R keys → T (is_sorted R (marked keys))
+  sorted-unit_entries : (keys : List K) → IsStrictlySortedBy R keys → T (is_sorted R (unit_entries keys))
   unfolding IsStrictlySortedBy
-  sorted-marked [] h = tt
-  sorted-marked (k ∷ ks) h = both _ _ (below-marked k ks h.0) (sorted-marked ks h.1)
+  sorted-unit_entries [] h = tt
+  sorted-unit_entries (k ∷ ks) h = both _ _ (below-unit_entries k ks h.0) (sorted-unit_entries ks h.1)
 
-  rising-marked : (keys : List K) → T (is_sorted R (marked keys)) → IsStrictlySortedBy R keys
+  rising-unit_entries : (keys : List K) → T (is_sorted R (unit_entries keys)) → IsStrictlySortedBy R keys
   unfolding IsStrictlySortedBy
-  rising-marked [] h = tt
-  rising-marked (k ∷ ks) h = (all-below k ks (first _ _ h), rising-marked ks (second (below_all R k (marked ks)) _ h))
+  rising-unit_entries [] h = tt
+  rising-unit_entries (k ∷ ks) h = (all-below k ks (first _ _ h), rising-unit_entries ks (second (below_all R k (unit_entries ks)) _ h))
 
   -- the members rise
   pub IsStrictlySortedBy-members : (set : SetOf R) → IsStrictlySortedBy R (members set)
-  IsStrictlySortedBy-members set = rising-marked (members set) (subst (λ es. T (is_sorted R es)) (sym (marked-keys (finmap.entries set))) (finmap.entries_sorted set))
+  IsStrictlySortedBy-members set = rising-unit_entries (members set) (subst (λ es. T (is_sorted R es)) (sym (unit_entries-keys (finmap.entries set))) (finmap.entries_sorted set))
 
   pub contains-members : (set : SetOf R) (q : K) → contains set q ≡ list_any (eq_by_cmp R q) (members set)
   contains-members set q = finmap.contains_key-keys set q
@@ -92,7 +92,7 @@ module _ {K : Type 0} (R : K → K → Ordering) where
 
   module _ (o : IsTotalOrder R) where
     pub contains-from_list : (keys : List K) (q : K) → contains (from_list {R = R} keys) q ≡ list_any (eq_by_cmp R q) keys
-    contains-from_list keys q = ap is_some (finmap.get-from_entries o (marked keys) q) ∙ is_some-find q keys
+    contains-from_list keys q = ap is_some (finmap.get-from_entries o (unit_entries keys) q) ∙ is_some-find q keys
 
     module _ (same : IsAntisymmetric R) where
       -- two sets that contain the same are one
@@ -102,9 +102,9 @@ module _ {K : Type 0} (R : K → K → Ordering) where
       -- the rising list of what a set contains is its list of members
       pub members_are : (set : SetOf R) (keys : List K) → IsStrictlySortedBy R keys → ((q : K) → list_any (eq_by_cmp R q) keys ≡ contains set q) → keys ≡ members set
       members_are set keys rising is =
-          let made : SetOf R = finmap.from_sorted (marked keys) in
-          let entries_are : finmap.entries made ≡ marked keys = finmap.entries-from_sorted R (marked keys) (sorted-marked keys rising) in
-          let keys_are : members made ≡ keys = ap (map (λ (e : K × Unit {0}). e.0)) entries_are ∙ keys-marked keys in
+          let made : SetOf R = finmap.from_sorted (unit_entries keys) in
+          let entries_are : finmap.entries made ≡ unit_entries keys = finmap.entries-from_sorted R (unit_entries keys) (sorted-unit_entries keys rising) in
+          let keys_are : members made ≡ keys = ap (map (λ (e : K × Unit {0}). e.0)) entries_are ∙ keys-unit_entries keys in
           let sets : made ≡ set = same_set made set (λ q. contains-members made q ∙ ap (list_any (eq_by_cmp R q)) keys_are ∙ is q) in
           sym keys_are ∙ ap members sets
 

@@ -9,7 +9,7 @@ use Rattle.ts_model.specs.declared.signed.Sign.TheVariants.{Add, Remove}
 use Rattle.ts_model.specs.declared.signed.SignedTriple.{SignedTriple}
 use Rattle.ts_model.specs.Canonical.{IsCanonical}
 use Rattle.ts_model.specs.Characters.{is_letter}
-use Rattle.ts_model.specs.Fact.{Fact}
+use Rattle.ts_model.specs.TextTriple.{TextTriple}
 use Rattle.ts_model.specs.Iri.{IsIri, iri_spelling}
 use Rattle.ts_model.specs.LayerText.{layer_text}
 use Rattle.ts_model.specs.Literal.{string_spelling, IsFirstPart}
@@ -78,22 +78,22 @@ last_layer = refl
 
 -- ---- bodies
 
-abbrev fact : ℕ → Fact
-fact letter = record {
+abbrev triple : ℕ → TextTriple
+triple letter = record {
   subject = record { kind = Node; spelling = 0x3C ∷ letter ∷ 0x3E ∷ [] };
   predicate = record { kind = Predicate; spelling = codes "<p>" };
   object = record { kind = Node; spelling = codes "<b>" };
 }
 
 abbrev body : List SignedTriple
-body = record { sign = Add; triple = fact 0x61 } ∷ record { sign = Add; triple = fact 0x62 } ∷ record { sign = Remove; triple = fact 0x61 } ∷ []
+body = record { sign = Add; triple = triple 0x61 } ∷ record { sign = Add; triple = triple 0x62 } ∷ record { sign = Remove; triple = triple 0x61 } ∷ []
 
 -- the last line decides
-removed_last : last_sign body (fact 0x61) ≡ Some Remove
+removed_last : last_sign body (triple 0x61) ≡ Some Remove
 removed_last = refl
 
-added_once : last_sign body (fact 0x62) ≡ Some Add
+added_once : last_sign body (triple 0x62) ≡ Some Add
 added_once = refl
 
-not_named : last_sign body (fact 0x63) ≡ None
+not_named : last_sign body (triple 0x63) ≡ None
 not_named = refl

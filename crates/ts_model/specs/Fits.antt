@@ -2,14 +2,14 @@
 use Rattle.std.specs.Prelude.{Bool, true, ◌&&◌, Option, Some, None}
 use Rattle.std.specs.Ordering.{eq_by_cmp}
 use Rattle.ts_model.specs.declared.pattern.Pattern.{Pattern}
-use Rattle.ts_model.specs.Spelled.{Spelled}
-use Rattle.ts_model.specs.Fact.{Fact}
+use Rattle.ts_model.specs.TextTerm.{TextTerm}
+use Rattle.ts_model.specs.TextTriple.{TextTriple}
 use Rattle.ts_model.specs.Order.{term_cmp}
 
 -- a term that is given fits itself alone, and one that is not fits each
-abbrev pub term_fits : Option Spelled → Spelled → Bool
+abbrev pub term_fits : Option TextTerm → TextTerm → Bool
 term_fits None term = true
 term_fits (Some given) term = eq_by_cmp term_cmp given term
 
-abbrev pub fits : Pattern → Fact → Bool
-fits pattern fact = term_fits pattern.subject fact.subject && term_fits pattern.predicate fact.predicate && term_fits pattern.object fact.object
+abbrev pub fits : Pattern → TextTriple → Bool
+fits pattern triple = term_fits pattern.subject triple.subject && term_fits pattern.predicate triple.predicate && term_fits pattern.object triple.object

@@ -3,7 +3,7 @@ pub mod BlankLabel
 pub mod Canonical
 pub mod ChainTotals
 pub mod Characters
-pub mod Fact
+pub mod TextTriple
 pub mod Fits
 pub mod History
 pub mod Iri
@@ -17,5 +17,5 @@ pub mod Order
 pub mod Pieces
 pub mod Refused
 pub mod Sets
-pub mod Spelled
+pub mod TextTerm
 pub mod Totals

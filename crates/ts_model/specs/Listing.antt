@@ -4,8 +4,8 @@ use Rattle.std.specs.declared.cmp.Ordering.{Ordering}
 use Rattle.std.specs.Ordering.{nat_cmp, on, then_cmp}
 use Rattle.std.specs.Cmp.Lexicographic.{slice_cmp}
 use Rattle.ts_model.specs.declared.pattern.Pattern.{Pattern}
-use Rattle.ts_model.specs.Spelled.{Spelled}
-use Rattle.ts_model.specs.Fact.{Fact}
+use Rattle.ts_model.specs.TextTerm.{TextTerm}
+use Rattle.ts_model.specs.TextTriple.{TextTriple}
 use Rattle.ts_model.specs.Order.{kind_place}
 use Rattle.ts_model.specs.Fits.{fits}
 use Rattle.ts_model.specs.Sets.{members, from_list}
@@ -13,21 +13,21 @@ use Rattle.ts_model.specs.History.{History, content_at}
 use Rattle.ts_model.specs.Birth.{birth_of}
 
 -- by birth, then node before value, then spelling
-abbrev pub key_cmp : History → ℕ → Spelled → Spelled → Ordering
+abbrev pub key_cmp : History → ℕ → TextTerm → TextTerm → Ordering
 key_cmp history k =
     then_cmp (on (λ term. unwrap_or (birth_of history k term) 0) nat_cmp)
     (then_cmp (on (λ term. kind_place term.kind) nat_cmp) (on (λ term. term.spelling) (slice_cmp nat_cmp)))
 
 -- by the keys of subject, predicate and object
-abbrev pub birth_cmp : History → ℕ → Fact → Fact → Ordering
+abbrev pub birth_cmp : History → ℕ → TextTriple → TextTriple → Ordering
 birth_cmp history k =
-    then_cmp (on (λ fact. fact.subject) (key_cmp history k))
-    (then_cmp (on (λ fact. fact.predicate) (key_cmp history k)) (on (λ fact. fact.object) (key_cmp history k)))
+    then_cmp (on (λ triple. triple.subject) (key_cmp history k))
+    (then_cmp (on (λ triple. triple.predicate) (key_cmp history k)) (on (λ triple. triple.object) (key_cmp history k)))
 
 -- the triples of the layer, each once, in birth order
-abbrev pub listing : History → ℕ → List Fact
+abbrev pub listing : History → ℕ → List TextTriple
 listing history k = members (from_list {R = birth_cmp history k} (members (content_at history k)))
 
 -- those of them that fit
-abbrev pub select : History → ℕ → Pattern → List Fact
+abbrev pub select : History → ℕ → Pattern → List TextTriple
 select history k pattern = filter (fits pattern) (listing history k)

@@ -5,16 +5,16 @@ use Rattle.std.specs.Ordering.{eq_by_cmp}
 use Rattle.ts_model.specs.declared.signed.Sign.{Sign}
 use Rattle.ts_model.specs.declared.signed.Sign.TheVariants.{Add, Remove}
 use Rattle.ts_model.specs.declared.signed.SignedTriple.{SignedTriple}
-use Rattle.ts_model.specs.Fact.{Fact}
-use Rattle.ts_model.specs.Order.{fact_cmp}
+use Rattle.ts_model.specs.TextTriple.{TextTriple}
+use Rattle.ts_model.specs.Order.{triple_cmp}
 use Rattle.ts_model.specs.Sets.{SetOf, from_list, retain, difference, intersection}
 
-abbrev pub names : Fact → SignedTriple → Bool
-names fact line = eq_by_cmp fact_cmp fact line.triple
+abbrev pub names : TextTriple → SignedTriple → Bool
+names triple line = eq_by_cmp triple_cmp triple line.triple
 
 -- the sign of the last line that names the triple
-abbrev pub last_sign : List SignedTriple → Fact → Option Sign
-last_sign body fact = option_map (λ line. line.sign) (find (names fact) (reverse body))
+abbrev pub last_sign : List SignedTriple → TextTriple → Option Sign
+last_sign body triple = option_map (λ line. line.sign) (find (names triple) (reverse body))
 
 abbrev pub is_added : Option Sign → Bool
 is_added None = false
@@ -27,20 +27,20 @@ is_removed (Some Add) = false
 is_removed (Some Remove) = true
 
 -- the triples that a body names
-abbrev pub named : List SignedTriple → SetOf fact_cmp
+abbrev pub named : List SignedTriple → SetOf triple_cmp
 named body = from_list (map (λ line. line.triple) body)
 
 -- those whose last sign is `Add`
-abbrev pub added : List SignedTriple → SetOf fact_cmp
-added body = retain (named body) (λ fact. is_added (last_sign body fact))
+abbrev pub added : List SignedTriple → SetOf triple_cmp
+added body = retain (named body) (λ triple. is_added (last_sign body triple))
 
 -- those whose last sign is `Remove`
-abbrev pub removed : List SignedTriple → SetOf fact_cmp
-removed body = retain (named body) (λ fact. is_removed (last_sign body fact))
+abbrev pub removed : List SignedTriple → SetOf triple_cmp
+removed body = retain (named body) (λ triple. is_removed (last_sign body triple))
 
 -- those to add that are not there before, and those to remove that are
-abbrev pub net_additions : SetOf fact_cmp → List SignedTriple → SetOf fact_cmp
+abbrev pub net_additions : SetOf triple_cmp → List SignedTriple → SetOf triple_cmp
 net_additions before body = difference (added body) before
 
-abbrev pub net_removals : SetOf fact_cmp → List SignedTriple → SetOf fact_cmp
+abbrev pub net_removals : SetOf triple_cmp → List SignedTriple → SetOf triple_cmp
 net_removals before body = intersection (removed body) before

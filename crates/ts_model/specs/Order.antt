@@ -9,8 +9,8 @@ use Rattle.std.specs.Cmp.Lexicographic.{slice_cmp, nat_list_cmp_total}
 use Rattle.std.specs.FinSet.{IsAntisymmetric, nat_cmp-IsAntisymmetric, slice_cmp-IsAntisymmetric}
 use Rattle.ts_model.specs.declared.term.TermKind.{TermKind}
 use Rattle.ts_model.specs.declared.term.TermKind.TheVariants.{Node, Predicate, Value}
-use Rattle.ts_model.specs.Spelled.{Spelled}
-use Rattle.ts_model.specs.Fact.{Fact}
+use Rattle.ts_model.specs.TextTerm.{TextTerm}
+use Rattle.ts_model.specs.TextTriple.{TextTriple}
 
 -- node before predicate before value
 abbrev pub kind_place : TermKind → ℕ
@@ -18,19 +18,19 @@ kind_place Node = 0
 kind_place Predicate = 1
 kind_place Value = 2
 
-abbrev pub term_cmp : Spelled → Spelled → Ordering
+abbrev pub term_cmp : TextTerm → TextTerm → Ordering
 term_cmp = then_cmp (on (λ term. term.spelling) (slice_cmp nat_cmp)) (on (λ term. kind_place term.kind) nat_cmp)
 
-abbrev pub fact_cmp : Fact → Fact → Ordering
-fact_cmp = then_cmp (on (λ fact. fact.subject) term_cmp) (then_cmp (on (λ fact. fact.predicate) term_cmp) (on (λ fact. fact.object) term_cmp))
+abbrev pub triple_cmp : TextTriple → TextTriple → Ordering
+triple_cmp = then_cmp (on (λ triple. triple.subject) term_cmp) (then_cmp (on (λ triple. triple.predicate) term_cmp) (on (λ triple. triple.object) term_cmp))
 
 pub term_cmp_total : IsTotalOrder term_cmp
-term_cmp_total = then_total (on_total (λ (term : Spelled). term.spelling) nat_list_cmp_total) (on_total (λ (term : Spelled). kind_place term.kind) nat_cmp_total)
+term_cmp_total = then_total (on_total (λ (term : TextTerm). term.spelling) nat_list_cmp_total) (on_total (λ (term : TextTerm). kind_place term.kind) nat_cmp_total)
 
-pub fact_cmp_total : IsTotalOrder fact_cmp
-fact_cmp_total =
-    then_total (on_total (λ (fact : Fact). fact.subject) term_cmp_total)
-    (then_total (on_total (λ (fact : Fact). fact.predicate) term_cmp_total) (on_total (λ (fact : Fact). fact.object) term_cmp_total))
+pub triple_cmp_total : IsTotalOrder triple_cmp
+triple_cmp_total =
+    then_total (on_total (λ (triple : TextTriple). triple.subject) term_cmp_total)
+    (then_total (on_total (λ (triple : TextTriple). triple.predicate) term_cmp_total) (on_total (λ (triple : TextTriple). triple.object) term_cmp_total))
 
 first_equal : (a b : Ordering) → ordering_then a b ≡ Equal → a ≡ Equal
 first_equal Less b e = absurd (true≢false (sym (ap is_eq e)))
@@ -60,8 +60,8 @@ term_cmp-IsAntisymmetric x y e =
     let spellings : x.spelling ≡ y.spelling = slice_cmp-IsAntisymmetric nat_cmp-IsAntisymmetric _ _ (first_equal _ _ e) in
     λ i. record { kind = kinds i; spelling = spellings i }
 
-pub fact_cmp-IsAntisymmetric : IsAntisymmetric fact_cmp
-fact_cmp-IsAntisymmetric x y e =
+pub triple_cmp-IsAntisymmetric : IsAntisymmetric triple_cmp
+triple_cmp-IsAntisymmetric x y e =
     let others = second_equal (term_cmp x.subject y.subject) _ e in
     let subjects : x.subject ≡ y.subject = term_cmp-IsAntisymmetric _ _ (first_equal _ _ e) in
     let predicates : x.predicate ≡ y.predicate = term_cmp-IsAntisymmetric _ _ (first_equal _ _ others) in

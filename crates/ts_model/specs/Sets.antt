@@ -7,8 +7,8 @@ use Rattle.std.specs.FinMap as finmap
 abbrev pub SetOf : {K : Type 0} → (K → K → Ordering) → Type 0
 SetOf R = finmap.FinMap R (Unit {0})
 
-abbrev pub marked : {K : Type 0} → List K → List (K × Unit {0})
-marked keys = map (λ key. (key, tt)) keys
+abbrev pub unit_entries : {K : Type 0} → List K → List (K × Unit {0})
+unit_entries keys = map (λ key. (key, tt)) keys
 
 module _ {K : Type 0} {R : K → K → Ordering} where
   abbrev pub contains : SetOf R → K → Bool
@@ -23,7 +23,7 @@ module _ {K : Type 0} {R : K → K → Ordering} where
   size set = length (members set)
 
   abbrev pub from_list : List K → SetOf R
-  from_list keys = finmap.from_entries (marked keys)
+  from_list keys = finmap.from_entries (unit_entries keys)
 
   -- the members that pass a test
   abbrev pub retain : SetOf R → (K → Bool) → SetOf R

@@ -35,9 +35,9 @@ pub struct Term {
 }
 
 impl Model for Term {
-    ghost use Rattle.ts_model.specs.Spelled.{Spelled, IsTerm};
+    ghost use Rattle.ts_model.specs.TextTerm.{TextTerm, IsTerm};
 
-    ghost Value = { Spelled };
+    ghost Value = { TextTerm };
 
     ghost view = { λ t. record { kind = t.kind; spelling = t.spelling.items } };
 

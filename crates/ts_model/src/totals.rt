@@ -29,7 +29,7 @@ pub fn totals_of(alloc: Global, triples: &[Triple]) -> Result<Totals, AllocError
 
 fn nodes_and_values(alloc: Global, triples: &[Triple]) -> Result<Vec<&Term>, AllocError>
     ensures { IfOk result (λ terms.
-        map (λ term. term.now) terms.items ≡ flat_map (λ fact. fact.subject ∷ fact.object ∷ []) triples.now) }
+        map (λ term. term.now) terms.items ≡ flat_map (λ triple. triple.subject ∷ triple.object ∷ []) triples.now) }
 {
     let mut terms = Vec::new(alloc);
     for triple in triples {
@@ -41,7 +41,7 @@ fn nodes_and_values(alloc: Global, triples: &[Triple]) -> Result<Vec<&Term>, All
 
 fn predicates(alloc: Global, triples: &[Triple]) -> Result<Vec<&Term>, AllocError>
     ensures { IfOk result (λ terms.
-        map (λ term. term.now) terms.items ≡ map (λ fact. fact.predicate) triples.now) }
+        map (λ term. term.now) terms.items ≡ map (λ triple. triple.predicate) triples.now) }
 {
     let mut terms = Vec::new(alloc);
     for triple in triples {

@@ -1,5 +1,5 @@
 ghost use Rattle.std.specs.Prelude.{◌≡◌, IfOk};
-ghost use Rattle.ts_model.specs.Fact.{HasKinds};
+ghost use Rattle.ts_model.specs.TextTriple.{HasKinds};
 
 use crate::term::Term;
 use std::alloc::{AllocError, Global};
@@ -15,9 +15,9 @@ pub struct Triple {
 }
 
 impl Model for Triple {
-    ghost use Rattle.ts_model.specs.Fact.{Fact, HasKinds};
+    ghost use Rattle.ts_model.specs.TextTriple.{TextTriple, HasKinds};
 
-    ghost Value = { Fact };
+    ghost Value = { TextTriple };
 
     ghost view = { λ t. record { subject = t.subject; predicate = t.predicate; object = t.object } };
 
@@ -73,11 +73,11 @@ impl Triple {
 impl PartialEq for Triple {
     ghost use Rattle.std.specs.Cmp.{partial_equiv_from_equiv, eq_by_cmp_equiv};
     ghost use Rattle.std.specs.Ordering.{eq_by_cmp};
-    ghost use Rattle.ts_model.specs.Order.{fact_cmp, fact_cmp_total};
+    ghost use Rattle.ts_model.specs.Order.{triple_cmp, triple_cmp_total};
 
-    ghost eq = { eq_by_cmp fact_cmp };
+    ghost eq = { eq_by_cmp triple_cmp };
 
-    ghost laws = { partial_equiv_from_equiv (eq_by_cmp_equiv fact_cmp_total) };
+    ghost laws = { partial_equiv_from_equiv (eq_by_cmp_equiv triple_cmp_total) };
 
     fn eq(&self, other: &Triple) -> bool {
         self.cmp(other).is_eq()
@@ -86,19 +86,19 @@ impl PartialEq for Triple {
 
 impl Eq for Triple {
     ghost use Rattle.std.specs.Cmp.{eq_by_cmp_equiv};
-    ghost use Rattle.ts_model.specs.Order.{fact_cmp_total};
+    ghost use Rattle.ts_model.specs.Order.{triple_cmp_total};
 
-    ghost laws = { eq_by_cmp_equiv fact_cmp_total };
+    ghost laws = { eq_by_cmp_equiv triple_cmp_total };
 }
 
 impl PartialOrd for Triple {
     ghost use Rattle.std.specs.Cmp.{partial_order_from_total};
     ghost use Rattle.std.specs.Ordering.{as_partial_cmp};
-    ghost use Rattle.ts_model.specs.Order.{fact_cmp, fact_cmp_total};
+    ghost use Rattle.ts_model.specs.Order.{triple_cmp, triple_cmp_total};
 
-    ghost partial_cmp = { as_partial_cmp fact_cmp };
+    ghost partial_cmp = { as_partial_cmp triple_cmp };
 
-    ghost laws = { partial_order_from_total fact_cmp_total };
+    ghost laws = { partial_order_from_total triple_cmp_total };
 
     fn partial_cmp(&self, other: &Triple) -> Option<Ordering> {
         Some(self.cmp(other))
@@ -108,11 +108,11 @@ impl PartialOrd for Triple {
 /// By subject, then predicate, then object.
 impl Ord for Triple {
     ghost use Rattle.std.specs.Prelude.{refl};
-    ghost use Rattle.ts_model.specs.Order.{fact_cmp, fact_cmp_total};
+    ghost use Rattle.ts_model.specs.Order.{triple_cmp, triple_cmp_total};
 
-    ghost cmp = { fact_cmp };
+    ghost cmp = { triple_cmp };
 
-    ghost total = { fact_cmp_total };
+    ghost total = { triple_cmp_total };
 
     ghost matches_partial_cmp = { λ x y. refl };
 

@@ -5,7 +5,7 @@ use Rattle.std.proofs.lemmas.Str.{encodes-chars, chars-nil}
 use Rattle.ts_model.specs.declared.term.TermKind.{TermKind}
 use Rattle.ts_model.specs.declared.signed.Sign.{Sign}
 use Rattle.ts_model.specs.Canonical.{IsCanonical}
-use Rattle.ts_model.specs.Fact.{Fact}
+use Rattle.ts_model.specs.TextTriple.{TextTriple}
 use Rattle.ts_nt.specs.Terms.{TermAt}
 use Rattle.ts_nt.specs.TripleText.{IsTripleText}
 use Rattle.ts_nt.specs.LineRead.{SpellsTerm}
@@ -13,9 +13,9 @@ use Rattle.ts_nt.proofs.ScalarLaws.{All-chars}
 use Rattle.ts_nt.proofs.TermLaws.{term_once, term_canonical}
 use Rattle.ts_nt.proofs.TripleLaws.{AreCanonical, text_canonical}
 
-pub line_canonical : (line text : List ℕ) (sign : Sign) (fact : Fact) → text ≡ line → IsUtf8 line → IsTripleText (chars text) sign fact → AreCanonical fact
-line_canonical line text sign fact same utf8 reads =
-    text_canonical (chars text) sign fact (subst (λ bytes. All IsScalar (chars bytes)) (sym same) (All-chars line utf8)) reads
+pub line_canonical : (line text : List ℕ) (sign : Sign) (triple : TextTriple) → text ≡ line → IsUtf8 line → IsTripleText (chars text) sign triple → AreCanonical triple
+line_canonical line text sign triple same utf8 reads =
+    text_canonical (chars text) sign triple (subst (λ bytes. All IsScalar (chars bytes)) (sym same) (All-chars line utf8)) reads
 
 module _ (bytes text : List ℕ) (same : text ≡ bytes) (utf8 : IsUtf8 bytes) (kind : TermKind) (spelling rest : List ℕ) (reads : TermAt kind (chars text) spelling rest) where
   pub spelling_canonical : IsCanonical kind spelling

@@ -3,24 +3,24 @@ use Rattle.std.specs.Prelude.{◌⊎◌, ℕ, ◌<◌, ◌≤◌, List, [], leng
 use Rattle.ts_model.specs.declared.term.TermKind.{TermKind}
 use Rattle.ts_model.specs.declared.signed.Sign.{Sign}
 use Rattle.ts_model.specs.declared.signed.SignedTriple.{SignedTriple}
-use Rattle.ts_model.specs.Fact.{Fact}
+use Rattle.ts_model.specs.TextTriple.{TextTriple}
 use Rattle.ts_nt.specs.Terms.{TermAt}
 use Rattle.ts_nt.specs.TripleText.{IsTripleText, IsNothingOrComment, after_blanks}
 use Rattle.ts_nt.specs.declared.read.LineError.{LineError}
 use Rattle.ts_nt.specs.declared.read.LineError.TheVariants.{TooLong, Bad, Memory}
 
 -- the line is a line of this triple with this sign
-abbrev pub Spells : List ℕ → Sign → Fact → Type 0
-Spells line sign fact = IsUtf8 line × IsTripleText (chars line) sign fact
+abbrev pub Spells : List ℕ → Sign → TextTriple → Type 0
+Spells line sign triple = IsUtf8 line × IsTripleText (chars line) sign triple
 
 -- the line is blank or a comment
 abbrev pub IsSilent : List ℕ → Type 0
 IsSilent line = IsUtf8 line × IsNothingOrComment (after_blanks (chars line))
 
 -- no term has more than 1,048,576 bytes
-abbrev pub IsWithinLimits : Fact → Type 0
-IsWithinLimits fact =
-    (length fact.subject.spelling ≤ 1048576) × (length fact.predicate.spelling ≤ 1048576) × (length fact.object.spelling ≤ 1048576)
+abbrev pub IsWithinLimits : TextTriple → Type 0
+IsWithinLimits triple =
+    (length triple.subject.spelling ≤ 1048576) × (length triple.predicate.spelling ≤ 1048576) × (length triple.object.spelling ≤ 1048576)
 
 -- the line and its terms are within their limits, and it is a line of this triple
 abbrev pub IsReadAs : List ℕ → SignedTriple → Type 0
@@ -28,11 +28,11 @@ IsReadAs line signed = (length line ≤ 4194304) × Spells line signed.sign sign
 
 -- the line is over its limit, or is a line of a triple with a term over its own
 abbrev pub IsTooLong : List ℕ → Type 0
-IsTooLong line = (4194304 < length line) ⊎ ((sign : Sign) × (fact : Fact) × Spells line sign fact × (IsWithinLimits fact → ⊥))
+IsTooLong line = (4194304 < length line) ⊎ ((sign : Sign) × (triple : TextTriple) × Spells line sign triple × (IsWithinLimits triple → ⊥))
 
 -- the line is within its limit, and neither blank, a comment nor a line of a triple
 abbrev pub IsBad : List ℕ → Type 0
-IsBad line = (length line ≤ 4194304) × (IsSilent line → ⊥) × ((sign : Sign) (fact : Fact) → Spells line sign fact → ⊥)
+IsBad line = (length line ≤ 4194304) × (IsSilent line → ⊥) × ((sign : Sign) (triple : TextTriple) → Spells line sign triple → ⊥)
 
 -- the causes exclude each other, but for memory, which may run out at any line
 abbrev pub IsRefusedFor : List ℕ → LineError → Type 0

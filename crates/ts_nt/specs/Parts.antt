@@ -4,7 +4,7 @@ use Rattle.ts_model.specs.declared.term.TermKind.{TermKind}
 use Rattle.ts_model.specs.declared.term.TermKind.TheVariants.{Node, Predicate, Value}
 use Rattle.ts_model.specs.declared.signed.Sign.{Sign}
 use Rattle.ts_model.specs.declared.signed.Sign.TheVariants.{Add, Remove}
-use Rattle.ts_model.specs.Fact.{Fact}
+use Rattle.ts_model.specs.TextTriple.{TextTriple}
 use Rattle.ts_nt.specs.TripleText.{after_blanks, IsNothingOrComment, IsTripleText}
 
 -- the sign that stands at the front, and what follows it
@@ -22,7 +22,7 @@ abbrev pub IsEnd : List ℕ → Type 0
 IsEnd text = (behind : List ℕ) × (after_blanks text ≡ 0x2E ∷ behind) × IsNothingOrComment (after_blanks behind)
 
 -- the triple of three spellings
-abbrev pub triple_of : TermKind → List ℕ → List ℕ → List ℕ → Fact
+abbrev pub triple_of : TermKind → List ℕ → List ℕ → List ℕ → TextTriple
 triple_of kind subject predicate object = record {
   subject = record { kind = Node; spelling = subject };
   predicate = record { kind = Predicate; spelling = predicate };
@@ -31,4 +31,4 @@ triple_of kind subject predicate object = record {
 
 -- it is the text of no triple
 abbrev pub IsNoTriple : List ℕ → Type 0
-IsNoTriple text = (sign : Sign) (fact : Fact) → IsTripleText text sign fact → ⊥
+IsNoTriple text = (sign : Sign) (triple : TextTriple) → IsTripleText text sign triple → ⊥

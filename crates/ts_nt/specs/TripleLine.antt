@@ -1,11 +1,11 @@
 -- The line of a triple: its terms and a dot, with one space after each term.
 use Rattle.std.specs.Prelude.{◌≡◌, ℕ, List, [], ◌∷◌, ◌++◌}
-use Rattle.ts_model.specs.Fact.{Fact}
+use Rattle.ts_model.specs.TextTriple.{TextTriple}
 
 -- a space, and a dot at the end of a line
-abbrev pub triple_line : Fact → List ℕ
-triple_line fact =
-    fact.subject.spelling ++ 0x20 ∷ [] ++ fact.predicate.spelling ++ 0x20 ∷ [] ++ fact.object.spelling ++ 0x20 ∷ 0x2E ∷ 0x0A ∷ []
+abbrev pub triple_line : TextTriple → List ℕ
+triple_line triple =
+    triple.subject.spelling ++ 0x20 ∷ [] ++ triple.predicate.spelling ++ 0x20 ∷ [] ++ triple.object.spelling ++ 0x20 ∷ 0x2E ∷ 0x0A ∷ []
 
 -- the new bytes are the old ones and perhaps more
 abbrev pub Keeps : List ℕ → List ℕ → Type 0

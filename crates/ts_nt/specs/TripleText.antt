@@ -4,7 +4,7 @@ use Rattle.std.specs.List.{prefix_len}
 use Rattle.ts_model.specs.declared.term.TermKind.TheVariants.{Node, Predicate}
 use Rattle.ts_model.specs.declared.signed.Sign.{Sign}
 use Rattle.ts_model.specs.declared.signed.Sign.TheVariants.{Add, Remove}
-use Rattle.ts_model.specs.Fact.{Fact, HasKinds}
+use Rattle.ts_model.specs.TextTriple.{TextTriple, HasKinds}
 use Rattle.ts_nt.specs.Terms.{TermAt}
 
 -- a space or a tab
@@ -24,16 +24,16 @@ abbrev pub IsNothingOrComment : List ℕ → Type 0
 IsNothingOrComment text = (text ≡ []) ⊎ ((comment : List ℕ) × (text ≡ 0x23 ∷ comment))
 
 -- optionally a sign, then subject, predicate, object and a dot, with blanks before, between and after them
-pub record IsTripleText (text : List ℕ) (sign : Sign) (fact : Fact) : Type 0 where
-  pub kinds : HasKinds fact.subject fact.predicate fact.object
+pub record IsTripleText (text : List ℕ) (sign : Sign) (triple : TextTriple) : Type 0 where
+  pub kinds : HasKinds triple.subject triple.predicate triple.object
   pub after_sign : List ℕ
   pub after_subject : List ℕ
   pub after_predicate : List ℕ
   pub after_object : List ℕ
   pub after_dot : List ℕ
   pub has_sign : SignAt (after_blanks text) sign after_sign
-  pub subject : TermAt Node (after_blanks after_sign) fact.subject.spelling after_subject
-  pub predicate : TermAt Predicate (after_blanks after_subject) fact.predicate.spelling after_predicate
-  pub object : TermAt fact.object.kind (after_blanks after_predicate) fact.object.spelling after_object
+  pub subject : TermAt Node (after_blanks after_sign) triple.subject.spelling after_subject
+  pub predicate : TermAt Predicate (after_blanks after_subject) triple.predicate.spelling after_predicate
+  pub object : TermAt triple.object.kind (after_blanks after_predicate) triple.object.spelling after_object
   pub dot : after_blanks after_object ≡ 0x2E ∷ after_dot
   pub ending : IsNothingOrComment (after_blanks after_dot)

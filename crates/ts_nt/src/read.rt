@@ -1,8 +1,8 @@
 ghost use Rattle.std.specs.Prelude.{◌≡◌, ◌≢◌, ◌≤◌, length, IfOk, IfErr, IfSome, IfNone, ℕ, List};
 ghost use Rattle.ts_model.specs.declared.signed.Sign.{Sign};
 ghost use Rattle.ts_model.specs.Canonical.{IsCanonical};
-ghost use Rattle.ts_nt.specs.Parts.{triple_of as triple_fact};
-ghost use Rattle.ts_model.specs.Fact.{Fact};
+ghost use Rattle.ts_nt.specs.Parts.{triple_of as triple_of_parts};
+ghost use Rattle.ts_model.specs.TextTriple.{TextTriple};
 ghost use Rattle.ts_nt.specs.LineRead.{Answers, IsRefusedFor, IsSilent, IsWithinLimits, Spells, SpellsTerm};
 
 use crate::front::after_blanks;
@@ -62,8 +62,8 @@ fn triple_of(parts: Parts) -> Option<SignedTriple>
     requires predicate { IsCanonical TermKind.Predicate parts.predicate.items }
     requires object { IsCanonical parts.object_kind parts.object.items }
     requires kind { parts.object_kind ≢ TermKind.Predicate }
-    ensures some { IfSome result (λ signed. (signed ≡ record { sign = parts.sign; triple = triple_fact parts.object_kind parts.subject.items parts.predicate.items parts.object.items }) × IsWithinLimits signed.triple) }
-    ensures none { IfNone result (IsWithinLimits (triple_fact parts.object_kind parts.subject.items parts.predicate.items parts.object.items) → ⊥) }
+    ensures some { IfSome result (λ signed. (signed ≡ record { sign = parts.sign; triple = triple_of_parts parts.object_kind parts.subject.items parts.predicate.items parts.object.items }) × IsWithinLimits signed.triple) }
+    ensures none { IfNone result (IsWithinLimits (triple_of_parts parts.object_kind parts.subject.items parts.predicate.items parts.object.items) → ⊥) }
 {
     let longest = parts
         .subject
@@ -108,8 +108,8 @@ pub fn read_term(alloc: Global, bytes: &[u8], kind: TermKind) -> Result<Option<T
 /// A line is a line of one triple with one sign, or of none; a blank line or a comment is a line of none. Bytes spell one
 /// term of a kind, in its canonical spelling, or none.
 pub fn one_reading()
-    ensures once { (line : List ℕ) (a b : Sign) (f g : Fact) → Spells line a f → Spells line b g → (a ≡ b) × (f ≡ g) }
-    ensures silent { (line : List ℕ) (sign : Sign) (fact : Fact) → IsSilent line → Spells line sign fact → ⊥ }
+    ensures once { (line : List ℕ) (a b : Sign) (f g : TextTriple) → Spells line a f → Spells line b g → (a ≡ b) × (f ≡ g) }
+    ensures silent { (line : List ℕ) (sign : Sign) (triple : TextTriple) → IsSilent line → Spells line sign triple → ⊥ }
     ensures term { (bytes : List ℕ) (kind : TermKind) (a b : List ℕ) → SpellsTerm bytes kind a → SpellsTerm bytes kind b → a ≡ b }
     ensures canonical { (bytes spelling : List ℕ) (kind : TermKind) → SpellsTerm bytes kind spelling → IsCanonical kind spelling }
 {}

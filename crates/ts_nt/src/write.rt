@@ -1,6 +1,6 @@
 ghost use Rattle.std.specs.Prelude.{◌≡◌, OnOk, OnErr, ℕ, List, [], ◌∷◌, ◌++◌};
 ghost use Rattle.ts_model.specs.declared.signed.Sign.TheVariants.{Add};
-ghost use Rattle.ts_model.specs.Fact.{Fact, IsTriple};
+ghost use Rattle.ts_model.specs.TextTriple.{TextTriple, IsTriple};
 ghost use Rattle.ts_nt.specs.LineRead.{IsReadAs};
 ghost use Rattle.ts_nt.specs.TripleLine.{triple_line, Keeps};
 
@@ -24,6 +24,6 @@ pub fn write_triple(triple: &Triple, into: &mut Vec<u8>) -> Result<(), AllocErro
 
 /// The line of a triple, without its line feed, reads as that triple with `Add`.
 pub fn printed_triple_reads_back()
-    ensures { (fact : Fact) → IsTriple fact
-        → (line : List ℕ) × (triple_line fact ≡ line ++ 0x0A ∷ []) × IsReadAs line (record { sign = Add; triple = fact }) }
+    ensures { (triple : TextTriple) → IsTriple triple
+        → (line : List ℕ) × (triple_line triple ≡ line ++ 0x0A ∷ []) × IsReadAs line (record { sign = Add; triple = triple }) }
 {}

@@ -9,9 +9,9 @@ use Rattle.std.proofs.lemmas.List.Elements.{All-head, All-tail, All-map}
 use Rattle.std.specs.List.Sorted.{IsPermutation}
 use denote.Ref.{Bor}
 use Rattle.std.proofs.lemmas.List.Sorted.{All-permutation, IsPermutation-reverse}
-use Rattle.ts_model.specs.Spelled.{Spelled}
+use Rattle.ts_model.specs.TextTerm.{TextTerm}
 use Rattle.ts_model.specs.Birth.{has_term, mentions, first_place, birth_of}
-use Rattle.ts_model.specs.Order.{fact_cmp, fact_cmp_total, fact_cmp-IsAntisymmetric}
+use Rattle.ts_model.specs.Order.{triple_cmp, triple_cmp_total, triple_cmp-IsAntisymmetric}
 use Rattle.ts_model.specs.Sets.{members, from_list, union, difference}
 use Rattle.ts_model.specs.History.{History, chain_of, content_of, content_at, additions_at, removals_at, set_or_none, IsWellKept}
 use Rattle.ts_model.proofs.HistoryLaws.{chain_from, chain_of-parent}
@@ -46,10 +46,10 @@ module _ (history : History) where
 
   -- a base holds its additions
   alone : (layer : PlainLayer) → content_above empty layer ≡ from_list layer.additions.items
-  alone layer = same_set fact_cmp fact_cmp_total fact_cmp-IsAntisymmetric (content_above empty layer) (from_list layer.additions.items) (λ fact.
-      contains-content_above empty layer fact
-      ∙ ap (λ b. (b && not (is_among layer.removals.items fact)) || is_among layer.additions.items fact) (contains-empty fact_cmp fact)
-      ∙ sym (contains-from_list fact_cmp fact_cmp_total layer.additions.items fact))
+  alone layer = same_set triple_cmp triple_cmp_total triple_cmp-IsAntisymmetric (content_above empty layer) (from_list layer.additions.items) (λ triple.
+      contains-content_above empty layer triple
+      ∙ ap (λ b. (b && not (is_among layer.removals.items triple)) || is_among layer.additions.items triple) (contains-empty triple_cmp triple)
+      ∙ sym (contains-from_list triple_cmp triple_cmp_total layer.additions.items triple))
 
   above : (layer : PlainLayer) (layers : List PlainLayer) → StandsIn history layer
       → content_above (content_of history (map (λ layer. layer.number) layers)) layer ≡ content_of history (layer.number ∷ map (λ layer. layer.number) layers)
@@ -67,12 +67,12 @@ module _ (history : History) where
       ∙ above layer layers (All-head (StandsIn history) layer layers stand)
 
   -- a layer bears the terms that it mentions
-  is_mentioned-in : (term : Spelled) (layer : PlainLayer) → StandsIn history layer → is_mentioned term layer ≡ mentions history term layer.number
+  is_mentioned-in : (term : TextTerm) (layer : PlainLayer) → StandsIn history layer → is_mentioned term layer ≡ mentions history term layer.number
   is_mentioned-in term layer stands =
-      let rising = members-from_rising fact_cmp fact_cmp_total fact_cmp-IsAntisymmetric layer.additions.items stands.rules.additions_rise in
+      let rising = members-from_rising triple_cmp triple_cmp_total triple_cmp-IsAntisymmetric layer.additions.items stands.rules.additions_rise in
       sym (ap (list_any (has_term term)) (ap members (added layer stands) ∙ rising))
 
-  first_same : (term : Spelled) (layers : List PlainLayer) → All (StandsIn history) layers
+  first_same : (term : TextTerm) (layers : List PlainLayer) → All (StandsIn history) layers
       → first_place (is_mentioned term) layers ≡ first_place (mentions history term) (map (λ layer. layer.number) layers)
   first_same term [] stand = refl
   first_same term (layer ∷ layers) stand =
@@ -87,7 +87,7 @@ module _ (history : History) where
         ∙ over_reversed (reverse layers) (All-permutation (StandsIn history) layers (reverse layers) (IsPermutation-reverse layers) chain.stand)
         ∙ ap (content_of history) (map-reverse (λ (layer : PlainLayer). layer.number) layers ∙ ap reverse chain.numbers ∙ reverse-reverse (chain_of history number))
 
-    pub birth_over-chain : (term : Spelled) → birth_over layers term ≡ birth_of history number term
+    pub birth_over-chain : (term : TextTerm) → birth_over layers term ≡ birth_of history number term
     birth_over-chain term = first_same term layers chain.stand ∙ ap (first_place (mentions history term)) chain.numbers
 
   -- the parent of a layer stands

@@ -11,7 +11,7 @@ use Rattle.ts_model.specs.Iri.{upper_digit, iri_escape, iri_character, iri_spell
 use Rattle.ts_model.specs.BlankLabel.{is_label_character, IsLabel}
 use Rattle.ts_model.specs.Literal.{string_character, string_spelling, IsTag, IsEnding}
 use Rattle.ts_model.specs.Canonical.{IsCanonical}
-use Rattle.ts_model.specs.Fact.{Fact, IsTriple}
+use Rattle.ts_model.specs.TextTriple.{TextTriple, IsTriple}
 use Rattle.ts_model.proofs.IriLaws.{direct_written, escape_written}
 use Rattle.ts_model.proofs.LabelFronts.{label_in_label}
 use Rattle.ts_model.proofs.TagFronts.{tag_in_tag}
@@ -129,18 +129,18 @@ canonical_ends Value spelling literal = same literal.spelled (joined (string_end
 -- ---- lines
 
 -- the line, without its end
-pub line_text : Fact → List ℕ
-line_text fact = fact.subject.spelling ++ 0x20 ∷ (fact.predicate.spelling ++ 0x20 ∷ (fact.object.spelling ++ 0x20 ∷ 0x2E ∷ []))
+pub line_text : TextTriple → List ℕ
+line_text triple = triple.subject.spelling ++ 0x20 ∷ (triple.predicate.spelling ++ 0x20 ∷ (triple.object.spelling ++ 0x20 ∷ 0x2E ∷ []))
 
-pub line_ends : (fact : Fact) → triple_line fact ≡ line_text fact ++ 0x0A ∷ []
+pub line_ends : (triple : TextTriple) → triple_line triple ≡ line_text triple ++ 0x0A ∷ []
 unfolding line_text
-line_ends fact = simp append_assoc
+line_ends triple = simp append_assoc
 
-pub text_has_no_end : (fact : Fact) → IsTriple fact → HasNoEnd (line_text fact)
+pub text_has_no_end : (triple : TextTriple) → IsTriple triple → HasNoEnd (line_text triple)
 unfolding line_text
-text_has_no_end fact triple =
-    let subject = canonical_ends fact.subject.kind fact.subject.spelling triple.1.0 in
-    let predicate = canonical_ends fact.predicate.kind fact.predicate.spelling triple.2.0 in
-    let object = canonical_ends fact.object.kind fact.object.spelling triple.3.0 in
+text_has_no_end triple is_triple =
+    let subject = canonical_ends triple.subject.kind triple.subject.spelling is_triple.1.0 in
+    let predicate = canonical_ends triple.predicate.kind triple.predicate.spelling is_triple.2.0 in
+    let object = canonical_ends triple.object.kind triple.object.spelling is_triple.3.0 in
     let whole = joined subject (mark 0x20 refl (joined predicate (mark 0x20 refl (joined object (mark 0x20 refl (mark 0x2E refl none)))))) in
     whole.all

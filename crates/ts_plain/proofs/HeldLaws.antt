@@ -6,10 +6,10 @@ use Rattle.std.specs.Ordering.{eq_by_cmp}
 use Rattle.std.specs.Cmp.{Equal-is, eq_by_cmp_equiv}
 use Rattle.std.proofs.lemmas.List.{take_more}
 use Rattle.std.proofs.lemmas.List.Folds.{list_any-append}
-use Rattle.ts_model.specs.Fact.{Fact}
-use Rattle.ts_model.specs.Spelled.{Spelled}
+use Rattle.ts_model.specs.TextTriple.{TextTriple}
+use Rattle.ts_model.specs.TextTerm.{TextTerm}
 use Rattle.ts_model.specs.Birth.{is_term, first_place}
-use Rattle.ts_model.specs.Order.{fact_cmp, fact_cmp_total, term_cmp, term_cmp_total, term_cmp-IsAntisymmetric}
+use Rattle.ts_model.specs.Order.{triple_cmp, triple_cmp_total, term_cmp, term_cmp_total, term_cmp-IsAntisymmetric}
 use Rattle.ts_plain.specs.Held.{noted}
 
 -- ---- a list of which one more element is read
@@ -44,26 +44,26 @@ took true false any = refl
 took false true any = ap not (sym (or_false any))
 took false false any = refl
 
-module _ (xs : List Fact) (i : ℕ) (x q : Fact) (new old before : Bool) (below : i < length xs) (is : x ≡ get_or xs i x) where
+module _ (xs : List TextTriple) (i : ℕ) (x q : TextTriple) (new old before : Bool) (below : i < length xs) (is : x ≡ get_or xs i x) where
   abbrev among : ℕ → Bool
-  among n = list_any (eq_by_cmp fact_cmp q) (take n xs)
+  among n = list_any (eq_by_cmp triple_cmp q) (take n xs)
 
-  flips : eq_by_cmp fact_cmp x q ≡ eq_by_cmp fact_cmp q x
-  flips = (eq_by_cmp_equiv fact_cmp_total).symm x q
+  flips : eq_by_cmp triple_cmp x q ≡ eq_by_cmp triple_cmp q x
+  flips = (eq_by_cmp_equiv triple_cmp_total).symm x q
 
-  pub one_more_held : new ≡ cond (eq_by_cmp fact_cmp x q) true old → old ≡ (before || among i) → new ≡ (before || among (i + 1))
+  pub one_more_held : new ≡ cond (eq_by_cmp triple_cmp x q) true old → old ≡ (before || among i) → new ≡ (before || among (i + 1))
   one_more_held changed was =
       changed
       ∙ (λ j. cond (flips j) true (was j))
-      ∙ put (eq_by_cmp fact_cmp q x) before (among i)
-      ∙ ap (λ b. before || b) (sym (list_any-more (eq_by_cmp fact_cmp q) xs i x below is))
+      ∙ put (eq_by_cmp triple_cmp q x) before (among i)
+      ∙ ap (λ b. before || b) (sym (list_any-more (eq_by_cmp triple_cmp q) xs i x below is))
 
-  pub one_more_gone : new ≡ cond (eq_by_cmp fact_cmp x q) false old → old ≡ (before && not (among i)) → new ≡ (before && not (among (i + 1)))
+  pub one_more_gone : new ≡ cond (eq_by_cmp triple_cmp x q) false old → old ≡ (before && not (among i)) → new ≡ (before && not (among (i + 1)))
   one_more_gone changed was =
       changed
       ∙ (λ j. cond (flips j) false (was j))
-      ∙ took (eq_by_cmp fact_cmp q x) before (among i)
-      ∙ ap (λ b. before && not b) (sym (list_any-more (eq_by_cmp fact_cmp q) xs i x below is))
+      ∙ took (eq_by_cmp triple_cmp q x) before (among i)
+      ∙ ap (λ b. before && not b) (sym (list_any-more (eq_by_cmp triple_cmp q) xs i x below is))
 
 -- ---- terms
 
@@ -80,7 +80,7 @@ noted_some : (o : Option ℕ) (here : Bool) (place : ℕ) → is_some o ≡ true
 noted_some None here place is = absurd (true≢false (sym is))
 noted_some (Some first) here place is = refl
 
-module _ (births : Spelled → Option ℕ) (term other : Spelled) (place : ℕ) where
+module _ (births : TextTerm → Option ℕ) (term other : TextTerm) (place : ℕ) where
   is_same : is_term other term ≡ true → other ≡ term
   is_same e = term_cmp-IsAntisymmetric _ _ ((Equal-is (term_cmp other term)).0 e)
 

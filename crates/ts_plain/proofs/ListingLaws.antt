@@ -12,12 +12,12 @@ use Rattle.std.proofs.lemmas.List.{get_or-map, length-map}
 use Rattle.std.proofs.lemmas.List.Sorted.{All-permutation, IsPermutation-map, list_any-IsPermutation}
 use Rattle.std.proofs.lemmas.Map.Keys.{IsDistinct-from_sorted, IsDistinct-IsPermutation, apart_from_distinct, sorted_from_all_adjacent}
 use Rattle.ts_model.specs.declared.term.TermKind.TheVariants.{Node}
-use Rattle.ts_model.specs.Fact.{Fact}
-use Rattle.ts_model.specs.Spelled.{Spelled}
+use Rattle.ts_model.specs.TextTriple.{TextTriple}
+use Rattle.ts_model.specs.TextTerm.{TextTerm}
 use Rattle.ts_model.specs.History.{History, content_at}
 use Rattle.ts_model.specs.Birth.{birth_of}
 use Rattle.ts_model.specs.Listing.{birth_cmp, listing}
-use Rattle.ts_model.specs.Order.{kind_place, fact_cmp, fact_cmp_total}
+use Rattle.ts_model.specs.Order.{kind_place, triple_cmp, triple_cmp_total}
 use Rattle.ts_model.specs.Sets.{members, from_list}
 use Rattle.ts_model.proofs.BirthOrder.{birth_cmp_total, birth_cmp-IsAntisymmetric}
 use Rattle.ts_model.proofs.SetLaws.{contains-from_list, members_are, IsStrictlySortedBy-members}
@@ -52,10 +52,10 @@ module _ {K : Type 0} {R S : K → K → Ordering} (o : IsTotalOrder S) (same : 
 
 -- ---- triples with their births
 
-abbrev pub triple_of : Keyed → Fact
+abbrev pub triple_of : Keyed → TextTriple
 triple_of keyed = keyed.triple.now
 
-born_total : (birth : Keyed → ℕ) (term : Keyed → Spelled) → IsTotalOrder (λ x y. born_cmp (birth x) (term x) (birth y) (term y))
+born_total : (birth : Keyed → ℕ) (term : Keyed → TextTerm) → IsTotalOrder (λ x y. born_cmp (birth x) (term x) (birth y) (term y))
 born_total birth term =
     then_total (on_total birth nat_cmp_total)
     (then_total (on_total (λ (keyed : Keyed). kind_place (term keyed).kind) nat_cmp_total) (on_total (λ (keyed : Keyed). (term keyed).spelling) nat_list_cmp_total))
@@ -66,7 +66,7 @@ keyed_cmp_total =
     (then_total (born_total (λ keyed. keyed.predicate) (λ keyed. keyed.triple.now.predicate)) (born_total (λ keyed. keyed.object) (λ keyed. keyed.triple.now.object)))
 
 module _ (history : History) (number : ℕ) where
-  abbrev pub birth : Spelled → ℕ
+  abbrev pub birth : TextTerm → ℕ
   birth term = unwrap_or (birth_of history number term) 0
 
   -- where the births are those of the layer, the triples are compared by them
@@ -76,14 +76,14 @@ module _ (history : History) (number : ℕ) where
       (ordering_then (born_cmp (a.predicate i) x.triple.now.predicate (b.predicate i) y.triple.now.predicate)
       (born_cmp (a.object i) x.triple.now.object (b.object i) y.triple.now.object))
 
-  abbrev some_term : Spelled
+  abbrev some_term : TextTerm
   some_term = record { kind = Node; spelling = [] }
 
-  abbrev some_fact : Fact
-  some_fact = record { subject = some_term; predicate = some_term; object = some_term }
+  abbrev some_triple : TextTriple
+  some_triple = record { subject = some_term; predicate = some_term; object = some_term }
 
-  abbrev some_keyed : Fact → Keyed
-  some_keyed fact = record { triple = record { ref_ptr = (0, 0); now = fact }; subject = 0; predicate = 0; object = 0 }
+  abbrev some_keyed : TextTriple → Keyed
+  some_keyed triple = record { triple = record { ref_ptr = (0, 0); now = triple }; subject = 0; predicate = 0; object = 0 }
 
   in_birth_order : (keyed : List Keyed) → All (IsKeyed birth) keyed → IsSorted keyed_cmp keyed → IsSorted (birth_cmp history number) (map triple_of keyed)
   in_birth_order keyed keys sorted = λ k d _ below.
@@ -98,7 +98,7 @@ module _ (history : History) (number : ℕ) where
   pub listing_is : (keyed sorted : List Keyed) → map triple_of keyed ≡ members (content_at history number) → All (IsKeyed birth) keyed → IsPermutation keyed sorted → IsSorted keyed_cmp sorted
       → map triple_of sorted ≡ listing history number
   listing_is keyed sorted content keys moved up =
-      members-sorted (birth_cmp_total history number) (birth_cmp-IsAntisymmetric history number) (members (content_at history number)) (map triple_of sorted) some_fact fact_cmp_total
-      (IsStrictlySortedBy-members fact_cmp (content_at history number))
-      (subst (λ facts. IsPermutation facts (map triple_of sorted)) content (IsPermutation-map triple_of keyed sorted moved))
+      members-sorted (birth_cmp_total history number) (birth_cmp-IsAntisymmetric history number) (members (content_at history number)) (map triple_of sorted) some_triple triple_cmp_total
+      (IsStrictlySortedBy-members triple_cmp (content_at history number))
+      (subst (λ triples. IsPermutation triples (map triple_of sorted)) content (IsPermutation-map triple_of keyed sorted moved))
       (in_birth_order sorted (All-permutation (IsKeyed birth) keyed sorted moved keys) up)

@@ -1,6 +1,6 @@
 -- A plain file is that of one layer.
 use Rattle.std.proofs.Common.{◌≡◌, ◌^◌, ◌<◌, ℕ, List, [], ◌++◌, Option, refl, sym, ap, ◌∙◌, subst}
-use Rattle.ts_model.specs.Fact.{Fact}
+use Rattle.ts_model.specs.TextTriple.{TextTriple}
 use Rattle.ts_plain.specs.PlainFile.{plain_file, head_line, change_lines}
 use Rattle.ts_plain.specs.PlainReading.{IsParent}
 use Rattle.ts_plain.specs.PlainRules.{IsPlainLayer}
@@ -8,7 +8,7 @@ use Rattle.ts_plain.proofs.HeadLaws.{head_once, number_once}
 use Rattle.ts_plain.proofs.LineLaws.{section_once}
 use Rattle.ts_plain.proofs.PlainLaws.{no_addition, nothing, parent_of, file_parts}
 
-pub same_layer : (number other_number : ℕ) (parent other_parent : Option ℕ) (additions removals other_additions other_removals : List Fact) → number < 2 ^ 32 → other_number < 2 ^ 32
+pub same_layer : (number other_number : ℕ) (parent other_parent : Option ℕ) (additions removals other_additions other_removals : List TextTriple) → number < 2 ^ 32 → other_number < 2 ^ 32
     → IsPlainLayer number parent additions removals → IsPlainLayer other_number other_parent other_additions other_removals
     → plain_file number parent additions removals ≡ plain_file other_number other_parent other_additions other_removals
     → (number ≡ other_number) × (parent ≡ other_parent) × (additions ≡ other_additions) × (removals ≡ other_removals)

@@ -1,6 +1,6 @@
 -- A plain file as its head and its two sections.
 use Rattle.std.proofs.Common.{◌≡◌, ◌≢◌, ◌^◌, ◌<◌, ◌≤◌, ℕ, List, [], ◌∷◌, ◌++◌, Option, None, Some, IfSome, refl, sym, ap, ◌∙◌, subst, arith, append_assoc, append-nil}
-use Rattle.ts_model.specs.Fact.{Fact}
+use Rattle.ts_model.specs.TextTriple.{TextTriple}
 use Rattle.ts_plain.specs.PlainFile.{head_line, change_lines, plain_file}
 use Rattle.ts_plain.specs.PlainReading.{AreApart, HasNoSign, IsParent, IsSection}
 use Rattle.ts_plain.specs.PlainRules.{FitsParent, IsPlainLayer, KeepsPlainRules}
@@ -10,22 +10,22 @@ use Rattle.ts_plain.proofs.SectionLaws.{one_section}
 first_same : (a b : ℕ) (xs ys : List ℕ) → a ∷ xs ≡ b ∷ ys → a ≡ b
 first_same a b xs ys e = cc
 
-pub no_addition : (removals : List Fact) → HasNoSign 0x2B (change_lines 0x2D removals)
+pub no_addition : (removals : List TextTriple) → HasNoSign 0x2B (change_lines 0x2D removals)
 no_addition [] rest e = cc
 no_addition (r ∷ removals) rest e = let same = first_same 0x2D 0x2B _ _ e in omega (arith, same)
 
 pub nothing : (sign : ℕ) → HasNoSign sign []
 nothing sign rest e = cc
 
-pub parent_of : (number : ℕ) (parent : Option ℕ) (additions removals : List Fact) → IsPlainLayer number parent additions removals → IsParent number parent
+pub parent_of : (number : ℕ) (parent : Option ℕ) (additions removals : List TextTriple) → IsPlainLayer number parent additions removals → IsParent number parent
 parent_of number None additions removals layer = tt
 parent_of number (Some parent) additions removals layer = (layer.0.parented, layer.0.parent_fits)
 
-pub file_parts : (number : ℕ) (parent : Option ℕ) (additions removals : List Fact)
+pub file_parts : (number : ℕ) (parent : Option ℕ) (additions removals : List TextTriple)
     → plain_file number parent additions removals ≡ head_line number parent ++ (change_lines 0x2B additions ++ change_lines 0x2D removals)
 file_parts number parent additions removals = append_assoc (head_line number parent) (change_lines 0x2B additions) (change_lines 0x2D removals)
 
-module _ (number : ℕ) (bytes : List ℕ) (parent : Option ℕ) (additions removals : List Fact) (layer : IsPlainLayer number parent additions removals)
+module _ (number : ℕ) (bytes : List ℕ) (parent : Option ℕ) (additions removals : List TextTriple) (layer : IsPlainLayer number parent additions removals)
     (is : bytes ≡ plain_file number parent additions removals) where
   whole : bytes ≡ head_line number parent ++ (change_lines 0x2B additions ++ change_lines 0x2D removals)
   whole = is ∙ file_parts number parent additions removals
@@ -40,38 +40,38 @@ module _ (number : ℕ) (bytes : List ℕ) (parent : Option ℕ) (additions remo
     first : IsSection 0x2B body additions (change_lines 0x2D removals)
     first = record { rise = layer.0.additions_rise; triples = layer.1; ends = no_addition removals; lines = both.1 }
 
-    pub needs_additions : ((facts : List Fact) (rest : List ℕ) → IsSection 0x2B body facts rest → ⊥) → ⊥
+    pub needs_additions : ((triples : List TextTriple) (rest : List ℕ) → IsSection 0x2B body triples rest → ⊥) → ⊥
     needs_additions none = none additions _ first
 
-    module _ (added : List Fact) (behind : List ℕ) (section : IsSection 0x2B body added behind) where
+    module _ (added : List TextTriple) (behind : List ℕ) (section : IsSection 0x2B body added behind) where
       same : (added ≡ additions) × (behind ≡ change_lines 0x2D removals)
       same = one_section 0x2B body added additions behind _ section first
 
       second : IsSection 0x2D behind removals []
       second = record { rise = layer.0.removals_rise; triples = layer.2; ends = nothing 0x2D; lines = same.1 ∙ sym (append-nil (change_lines 0x2D removals)) }
 
-      pub needs_removals : ((facts : List Fact) (rest : List ℕ) → IsSection 0x2D behind facts rest → ⊥) → ⊥
+      pub needs_removals : ((triples : List TextTriple) (rest : List ℕ) → IsSection 0x2D behind triples rest → ⊥) → ⊥
       needs_removals none = none removals [] second
 
-      module _ (removed : List Fact) (rest : List ℕ) (other : IsSection 0x2D behind removed rest) where
+      module _ (removed : List TextTriple) (rest : List ℕ) (other : IsSection 0x2D behind removed rest) where
         last : (removed ≡ removals) × (rest ≡ [])
         last = one_section 0x2D behind removed removals rest [] other second
 
         pub needs_end : rest ≡ []
         needs_end = last.1
 
-        base : (p : Option ℕ) (facts : List Fact) → FitsParent number p facts → p ≡ None → facts ≡ []
-        base None facts h e = h
-        base (Some p) facts h e = cc
+        base : (p : Option ℕ) (triples : List TextTriple) → FitsParent number p triples → p ≡ None → triples ≡ []
+        base None triples h e = h
+        base (Some p) triples h e = cc
 
         pub needs_apart : AreApart added removed × (named ≡ None → removed ≡ [])
         needs_apart = (
-          subst (λ facts. AreApart facts removed) (sym same.0) (subst (AreApart additions) (sym last.0) layer.0.apart),
+          subst (λ triples. AreApart triples removed) (sym same.0) (subst (AreApart additions) (sym last.0) layer.0.apart),
           λ none. last.0 ∙ base parent removals layer.0.parent_fits (sym both.0 ∙ none),
         )
 
 -- what was read is a layer's file
-pub is_layer : (number : ℕ) (bytes : List ℕ) (named : Option ℕ) (body : List ℕ) (added removed : List Fact) (behind rest : List ℕ) → 1 ≤ number → IsParent number named
+pub is_layer : (number : ℕ) (bytes : List ℕ) (named : Option ℕ) (body : List ℕ) (added removed : List TextTriple) (behind rest : List ℕ) → 1 ≤ number → IsParent number named
     → bytes ≡ head_line number named ++ body → IsSection 0x2B body added behind → IsSection 0x2D behind removed rest → rest ≡ []
     → AreApart added removed → (named ≡ None → removed ≡ []) → IsPlainLayer number named added removed × (bytes ≡ plain_file number named added removed)
 is_layer number bytes named body added removed behind rest positive can head one other over apart base =

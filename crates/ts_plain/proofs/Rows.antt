@@ -8,8 +8,8 @@ use Rattle.std.specs.List.{AllByRecursion}
 use Rattle.std.specs.List.Sorted.{IsStrictlySortedBy}
 use Rattle.std.specs.FinMap.{empty, find, get, contains_key, from_entries, get-from_entries, nat_cmp-IsAntisymmetric}
 use Rattle.std.proofs.lemmas.List.Elements.{All-cons, All-nil}
-use Rattle.ts_model.specs.Fact.{Fact, IsTriple}
-use Rattle.ts_model.specs.Order.{fact_cmp, fact_cmp_total, fact_cmp-IsAntisymmetric}
+use Rattle.ts_model.specs.TextTriple.{TextTriple, IsTriple}
+use Rattle.ts_model.specs.Order.{triple_cmp, triple_cmp_total, triple_cmp-IsAntisymmetric}
 use Rattle.ts_model.specs.Sets.{contains, from_list, union, difference}
 use Rattle.ts_model.specs.History.{LayerRecord, History, IsWellKept, IsLayerKept, parent_at, additions_at, removals_at, set_or_none, chain_within, content_of, content_below}
 use Rattle.ts_model.proofs.SetLaws.{contains-from_list}
@@ -37,35 +37,35 @@ IsWellKept-from_entries es all k layer is = find_holds (IsLayerKept (from_entrie
 
 -- ---- the three layers
 
-among : (facts : List Fact) (q : Fact) → contains (from_list {R = fact_cmp} facts) q ≡ is_among facts q
-among facts q = contains-from_list fact_cmp fact_cmp_total facts q
+among : (triples : List TextTriple) (q : TextTriple) → contains (from_list {R = triple_cmp} triples) q ≡ is_among triples q
+among triples q = contains-from_list triple_cmp triple_cmp_total triples q
 
 -- what a list of triples has is a triple
-triple_in : (facts : List Fact) → AllByRecursion IsTriple facts → (q : Fact) → contains (from_list {R = fact_cmp} facts) q ≡ true → IsTriple q
-triple_in facts all q is = found facts all (sym (among facts q) ∙ is)
+triple_in : (triples : List TextTriple) → AllByRecursion IsTriple triples → (q : TextTriple) → contains (from_list {R = triple_cmp} triples) q ≡ true → IsTriple q
+triple_in triples all q is = found triples all (sym (among triples q) ∙ is)
   where
-    found : (facts : List Fact) → AllByRecursion IsTriple facts → is_among facts q ≡ true → IsTriple q
+    found : (triples : List TextTriple) → AllByRecursion IsTriple triples → is_among triples q ≡ true → IsTriple q
     found [] all is = absurd (true≢false (sym is))
-    found (f ∷ facts) all is =
-        elim (eq_by_cmp fact_cmp q f) as (λ b. eq_by_cmp fact_cmp q f ≡ b → (b || is_among facts q) ≡ true → IsTriple q) [
-          | true ↦ λ here _. subst IsTriple (sym (fact_cmp-IsAntisymmetric q f ((Equal-is (fact_cmp q f)).0 here))) all.0
-          | false ↦ λ there later. found facts all.1 later
+    found (f ∷ triples) all is =
+        elim (eq_by_cmp triple_cmp q f) as (λ b. eq_by_cmp triple_cmp q f ≡ b → (b || is_among triples q) ≡ true → IsTriple q) [
+          | true ↦ λ here _. subst IsTriple (sym (triple_cmp-IsAntisymmetric q f ((Equal-is (triple_cmp q f)).0 here))) all.0
+          | false ↦ λ there later. found triples all.1 later
         ] refl is
 
-same_fact : (q x : Fact) → contains (from_list {R = fact_cmp} (x ∷ [])) q ≡ true → x ≡ q
-same_fact q x is = sym (fact_cmp-IsAntisymmetric q x ((Equal-is (fact_cmp q x)).0 (sym (or_false (eq_by_cmp fact_cmp q x)) ∙ sym (among (x ∷ []) q) ∙ is)))
+same_triple : (q x : TextTriple) → contains (from_list {R = triple_cmp} (x ∷ [])) q ≡ true → x ≡ q
+same_triple q x is = sym (triple_cmp-IsAntisymmetric q x ((Equal-is (triple_cmp q x)).0 (sym (or_false (eq_by_cmp triple_cmp q x)) ∙ sym (among (x ∷ []) q) ∙ is)))
   where
     or_false : (b : Bool) → (b || false) ≡ b
     or_false true = refl
     or_false false = refl
 
-itself : (x : Fact) → eq_by_cmp fact_cmp x x ≡ true
-itself x = ap is_eq (tied_itself fact_cmp_total x)
+itself : (x : TextTriple) → eq_by_cmp triple_cmp x x ≡ true
+itself x = ap is_eq (tied_itself triple_cmp_total x)
 
-not_empty : (q : Fact) → contains (empty {X = Unit {0}} {R = fact_cmp}) q ≡ true → ⊥
-not_empty q is = true≢false (sym is ∙ contains-empty fact_cmp q)
+not_empty : (q : TextTriple) → contains (empty {X = Unit {0}} {R = triple_cmp}) q ≡ true → ⊥
+not_empty q is = true≢false (sym is ∙ contains-empty triple_cmp q)
 
-module _ (x y z : Fact) (x_y : fact_cmp x y ≡ Less) (z_x : eq_by_cmp fact_cmp z x ≡ false) (z_y : eq_by_cmp fact_cmp z y ≡ false) where
+module _ (x y z : TextTriple) (x_y : triple_cmp x y ≡ Less) (z_x : eq_by_cmp triple_cmp z x ≡ false) (z_y : eq_by_cmp triple_cmp z y ≡ false) where
   abbrev base : LayerRecord
   base = record { parent = None; additions = from_list (x ∷ y ∷ []); removals = empty }
 
@@ -118,7 +118,7 @@ module _ (x y z : Fact) (x_y : fact_cmp x y ≡ Less) (z_x : eq_by_cmp fact_cmp 
     parent = tt;
     base = λ none. refl;
     removed = λ q is. absurd (not_empty q is);
-    added = λ q is. ap (λ set. contains set q) below_1 ∙ contains-empty fact_cmp q;
+    added = λ q is. ap (λ set. contains set q) below_1 ∙ contains-empty triple_cmp q;
   }
 
   kept_2 : IsTriple z → IsLayerKept story 2 middle
@@ -127,18 +127,18 @@ module _ (x y z : Fact) (x_y : fact_cmp x y ≡ Less) (z_x : eq_by_cmp fact_cmp 
     triples = triple_in (z ∷ []) (is_z, tt);
     parent = (omega arith, ap is_some (at 1));
     base = λ none. let never : ⊥ = cc in absurd never;
-    removed = λ q is. subst (λ q. contains (content_below story 2) q ≡ true) (same_fact q x is)
+    removed = λ q is. subst (λ q. contains (content_below story 2) q ≡ true) (same_triple q x is)
         (ap (λ set. contains set x) below_2 ∙ among (x ∷ y ∷ []) x ∙ ap (λ b. b || is_among (y ∷ []) x) (itself x));
-    added = λ q is. subst (λ q. contains (content_below story 2) q ≡ false) (same_fact q z is)
+    added = λ q is. subst (λ q. contains (content_below story 2) q ≡ false) (same_triple q z is)
         (ap (λ set. contains set z) below_2 ∙ among (x ∷ y ∷ []) z ∙ (λ i. z_x i || (z_y i || false)));
   }
 
   gone : contains (content_below story 3) x ≡ false
   gone =
-      let x_z : eq_by_cmp fact_cmp x z ≡ false = (eq_by_cmp_equiv fact_cmp_total).symm x z ∙ z_x in
+      let x_z : eq_by_cmp triple_cmp x z ≡ false = (eq_by_cmp_equiv triple_cmp_total).symm x z ∙ z_x in
       ap (λ set. contains set x) below_3
-      ∙ contains-union fact_cmp fact_cmp_total (difference (from_list (x ∷ y ∷ [])) (from_list (x ∷ []))) (from_list (z ∷ [])) x
-      ∙ (λ i. contains-difference fact_cmp fact_cmp_total fact_cmp-IsAntisymmetric (from_list (x ∷ y ∷ [])) (from_list (x ∷ [])) x i || among (z ∷ []) x i)
+      ∙ contains-union triple_cmp triple_cmp_total (difference (from_list (x ∷ y ∷ [])) (from_list (x ∷ []))) (from_list (z ∷ [])) x
+      ∙ (λ i. contains-difference triple_cmp triple_cmp_total triple_cmp-IsAntisymmetric (from_list (x ∷ y ∷ [])) (from_list (x ∷ [])) x i || among (z ∷ []) x i)
       ∙ (λ i. (among (x ∷ y ∷ []) x i && not (among (x ∷ []) x i)) || (x_z i || false))
       ∙ (λ i. ((itself x i || is_among (y ∷ []) x) && not (itself x i || false)) || false)
 
@@ -149,7 +149,7 @@ module _ (x y z : Fact) (x_y : fact_cmp x y ≡ Less) (z_x : eq_by_cmp fact_cmp 
     parent = (omega arith, ap is_some (at 2));
     base = λ none. let never : ⊥ = cc in absurd never;
     removed = λ q is. absurd (not_empty q is);
-    added = λ q is. subst (λ q. contains (content_below story 3) q ≡ false) (same_fact q x is) gone;
+    added = λ q is. subst (λ q. contains (content_below story 3) q ≡ false) (same_triple q x is) gone;
   }
 
   kept : IsTriple x → IsTriple y → IsTriple z → IsWellKept story
@@ -157,32 +157,32 @@ module _ (x y z : Fact) (x_y : fact_cmp x y ≡ Less) (z_x : eq_by_cmp fact_cmp 
 
 -- ---- as layers
 
-pub record Says (layer : PlainLayer) (number : ℕ) (parent : Option ℕ) (additions removals : List Fact) : Type 0 where
+pub record Says (layer : PlainLayer) (number : ℕ) (parent : Option ℕ) (additions removals : List TextTriple) : Type 0 where
   pub number_is : layer.number ≡ number
   pub parent_is : layer.parent ≡ parent
   pub additions_are : layer.additions.items ≡ additions
   pub removals_are : layer.removals.items ≡ removals
 
-entry_is : (layer : PlainLayer) (number : ℕ) (parent : Option ℕ) (additions removals : List Fact) → Says layer number parent additions removals
+entry_is : (layer : PlainLayer) (number : ℕ) (parent : Option ℕ) (additions removals : List TextTriple) → Says layer number parent additions removals
     → entry_of layer ≡ (number, record { parent = parent; additions = from_list additions; removals = from_list removals })
 entry_is layer number parent additions removals says = λ i.
     (says.number_is i, record { parent = says.parent_is i; additions = from_list (says.additions_are i); removals = from_list (says.removals_are i) })
 
-keeps : (layer : PlainLayer) (number : ℕ) (parent : Option ℕ) (additions removals : List Fact) → Says layer number parent additions removals
+keeps : (layer : PlainLayer) (number : ℕ) (parent : Option ℕ) (additions removals : List TextTriple) → Says layer number parent additions removals
     → KeepsPlainRules number parent additions removals → LayerKeepsRules layer
 keeps layer number parent additions removals says rules =
-    let P : ℕ × Option ℕ × List Fact × List Fact → Type 0 = λ q. KeepsPlainRules q.0 q.1 q.2 q.3 in
+    let P : ℕ × Option ℕ × List TextTriple × List TextTriple → Type 0 = λ q. KeepsPlainRules q.0 q.1 q.2 q.3 in
     subst P (λ i. (sym says.number_is i, sym says.parent_is i, sym says.additions_are i, sym says.removals_are i)) rules
 
-none_twice : (fact : Fact) (facts : List Fact) → Contains facts fact → Contains [] fact → ⊥
-none_twice fact facts h none = omega (arith, none.1)
+none_twice : (triple : TextTriple) (triples : List TextTriple) → Contains triples triple → Contains [] triple → ⊥
+none_twice triple triples h none = omega (arith, none.1)
 
-module _ (x y z : Fact) (x_y : fact_cmp x y ≡ Less) (z_x : eq_by_cmp fact_cmp z x ≡ false) (z_y : eq_by_cmp fact_cmp z y ≡ false) where
+module _ (x y z : TextTriple) (x_y : triple_cmp x y ≡ Less) (z_x : eq_by_cmp triple_cmp z x ≡ false) (z_y : eq_by_cmp triple_cmp z y ≡ false) where
   rules_1 : KeepsPlainRules 1 None (x ∷ y ∷ []) []
   unfolding IsStrictlySortedBy
-  rules_1 = record { numbered = omega arith; parented = tt; additions_rise = ((x_y, tt), (tt, tt)); removals_rise = tt; apart = λ fact h none. none_twice fact (x ∷ y ∷ []) h none; parent_fits = refl }
+  rules_1 = record { numbered = omega arith; parented = tt; additions_rise = ((x_y, tt), (tt, tt)); removals_rise = tt; apart = λ triple h none. none_twice triple (x ∷ y ∷ []) h none; parent_fits = refl }
 
-  alone : (f q : Fact) → Contains (f ∷ []) q → f ≡ q
+  alone : (f q : TextTriple) → Contains (f ∷ []) q → f ≡ q
   alone f q (zero, below, is) = is
   alone f q (suc k, below, is) = absurd (omega arith)
 
@@ -193,13 +193,13 @@ module _ (x y z : Fact) (x_y : fact_cmp x y ≡ Less) (z_x : eq_by_cmp fact_cmp 
     parented = omega arith;
     additions_rise = (tt, tt);
     removals_rise = (tt, tt);
-    apart = λ fact h k. true≢false (sym (itself x) ∙ ap (λ f. eq_by_cmp fact_cmp f x) (alone x fact k ∙ sym (alone z fact h)) ∙ z_x);
+    apart = λ triple h k. true≢false (sym (itself x) ∙ ap (λ f. eq_by_cmp triple_cmp f x) (alone x triple k ∙ sym (alone z triple h)) ∙ z_x);
     parent_fits = omega arith;
   }
 
   rules_3 : KeepsPlainRules 3 (Some 2) (x ∷ []) []
   unfolding IsStrictlySortedBy
-  rules_3 = record { numbered = omega arith; parented = omega arith; additions_rise = (tt, tt); removals_rise = tt; apart = λ fact h none. none_twice fact (x ∷ []) h none; parent_fits = omega arith }
+  rules_3 = record { numbered = omega arith; parented = omega arith; additions_rise = (tt, tt); removals_rise = tt; apart = λ triple h none. none_twice triple (x ∷ []) h none; parent_fits = omega arith }
 
   rising_numbers : IsStrictlySortedBy nat_cmp (1 ∷ 2 ∷ 3 ∷ [])
   unfolding IsStrictlySortedBy

@@ -3,8 +3,8 @@ use Rattle.std.proofs.Common.{◌≡◌, ◌≢◌, ℕ, List, [], ◌∷◌, �
 use Rattle.std.specs.List.Sorted.{IsStrictlySortedBy}
 use Rattle.std.proofs.lemmas.List.{flat_map_more}
 use Rattle.std.proofs.lemmas.List.Elements.{All-head, All-tail}
-use Rattle.ts_model.specs.Fact.{Fact, IsTriple}
-use Rattle.ts_model.specs.Order.{fact_cmp}
+use Rattle.ts_model.specs.TextTriple.{TextTriple, IsTriple}
+use Rattle.ts_model.specs.Order.{triple_cmp}
 use Rattle.ts_nt.specs.TripleLine.{triple_line}
 use Rattle.ts_plain.specs.PlainFile.{change_line, change_lines}
 use Rattle.ts_plain.specs.PlainReading.{IsSection}
@@ -12,7 +12,7 @@ use Rattle.ts_plain.proofs.LineLaws.{triple_once, next_is, section_once}
 use Rattle.ts_plain.proofs.OrderLaws.{rises_front}
 
 -- one more line
-pub lines_more : (sign : ℕ) (bytes : List ℕ) (done : List Fact) (next : Fact) (rest after later : List ℕ) → bytes ≡ change_lines sign done ++ rest
+pub lines_more : (sign : ℕ) (bytes : List ℕ) (done : List TextTriple) (next : TextTriple) (rest after later : List ℕ) → bytes ≡ change_lines sign done ++ rest
     → rest ≡ sign ∷ 0x20 ∷ after → after ≡ triple_line next ++ later → bytes ≡ change_lines sign (done ++ next ∷ []) ++ later
 lines_more sign bytes done next rest after later e stands reads =
     let line : rest ≡ change_line sign next ++ later = stands ∙ ap (λ l. sign ∷ 0x20 ∷ l) reads in
@@ -21,32 +21,32 @@ lines_more sign bytes done next rest after later e stands reads =
 
 -- ---- bytes with no section of the sign
 
-among : (done : List Fact) (next : Fact) (more : List Fact) → All IsTriple (done ++ next ∷ more) → IsTriple next
+among : (done : List TextTriple) (next : TextTriple) (more : List TextTriple) → All IsTriple (done ++ next ∷ more) → IsTriple next
 among [] next more h = All-head IsTriple next more h
 among (d ∷ ds) next more h = among ds next more (All-tail IsTriple d (ds ++ next ∷ more) h)
 
 -- no line of a triple stands behind the sign
-pub no_line : (sign : ℕ) (bytes : List ℕ) (done : List Fact) (rest after : List ℕ) → All IsTriple done → bytes ≡ change_lines sign done ++ rest
-    → rest ≡ sign ∷ 0x20 ∷ after → ((fact : Fact) (behind : List ℕ) → IsTriple fact → after ≢ triple_line fact ++ behind)
-    → (facts : List Fact) (behind : List ℕ) → IsSection sign bytes facts behind → ⊥
-no_line sign bytes done rest after triples e stands none facts behind section =
-    let next = next_is sign done facts rest after behind triples section.triples section.ends stands (sym e ∙ section.lines) in
+pub no_line : (sign : ℕ) (bytes : List ℕ) (done : List TextTriple) (rest after : List ℕ) → All IsTriple done → bytes ≡ change_lines sign done ++ rest
+    → rest ≡ sign ∷ 0x20 ∷ after → ((triple : TextTriple) (behind : List ℕ) → IsTriple triple → after ≢ triple_line triple ++ behind)
+    → (these : List TextTriple) (behind : List ℕ) → IsSection sign bytes these behind → ⊥
+no_line sign bytes done rest after triples e stands none these behind section =
+    let next = next_is sign done these rest after behind triples section.triples section.ends stands (sym e ∙ section.lines) in
     none next.0 _ (among done next.0 next.1 (subst (All IsTriple) next.2 section.triples)) next.3
 
 -- the triple that stands there doesn't rise
-pub no_rise : (sign : ℕ) (bytes : List ℕ) (done : List Fact) (read : Fact) (rest after later : List ℕ) → All IsTriple done → bytes ≡ change_lines sign done ++ rest
-    → rest ≡ sign ∷ 0x20 ∷ after → IsTriple read → after ≡ triple_line read ++ later → (IsStrictlySortedBy fact_cmp (done ++ read ∷ []) → ⊥)
-    → (facts : List Fact) (behind : List ℕ) → IsSection sign bytes facts behind → ⊥
-no_rise sign bytes done read rest after later triples e stands triple reads falls facts behind section =
-    let next = next_is sign done facts rest after behind triples section.triples section.ends stands (sym e ∙ section.lines) in
+pub no_rise : (sign : ℕ) (bytes : List ℕ) (done : List TextTriple) (read : TextTriple) (rest after later : List ℕ) → All IsTriple done → bytes ≡ change_lines sign done ++ rest
+    → rest ≡ sign ∷ 0x20 ∷ after → IsTriple read → after ≡ triple_line read ++ later → (IsStrictlySortedBy triple_cmp (done ++ read ∷ []) → ⊥)
+    → (these : List TextTriple) (behind : List ℕ) → IsSection sign bytes these behind → ⊥
+no_rise sign bytes done read rest after later triples e stands triple reads falls these behind section =
+    let next = next_is sign done these rest after behind triples section.triples section.ends stands (sym e ∙ section.lines) in
     let other : IsTriple next.0 = among done next.0 next.1 (subst (All IsTriple) next.2 section.triples) in
     let same : next.0 ≡ read = (triple_once next.0 read _ later other triple (sym next.3 ∙ reads)).0 in
-    let rise : IsStrictlySortedBy fact_cmp (done ++ next.0 ∷ []) = rises_front fact_cmp done next.1 next.0 (subst (IsStrictlySortedBy fact_cmp) next.2 section.rise) in
-    falls (subst (λ f. IsStrictlySortedBy fact_cmp (done ++ f ∷ [])) same rise)
+    let rise : IsStrictlySortedBy triple_cmp (done ++ next.0 ∷ []) = rises_front triple_cmp done next.1 next.0 (subst (IsStrictlySortedBy triple_cmp) next.2 section.rise) in
+    falls (subst (λ f. IsStrictlySortedBy triple_cmp (done ++ f ∷ [])) same rise)
 
 -- ---- one section
 
-pub one_section : (sign : ℕ) (bytes : List ℕ) (done facts : List Fact) (rest behind : List ℕ) → IsSection sign bytes done rest → IsSection sign bytes facts behind
-    → (done ≡ facts) × (rest ≡ behind)
-one_section sign bytes done facts rest behind one other =
-    section_once sign done facts rest behind one.triples other.triples one.ends other.ends (sym one.lines ∙ other.lines)
+pub one_section : (sign : ℕ) (bytes : List ℕ) (done these : List TextTriple) (rest behind : List ℕ) → IsSection sign bytes done rest → IsSection sign bytes these behind
+    → (done ≡ these) × (rest ≡ behind)
+one_section sign bytes done these rest behind one other =
+    section_once sign done these rest behind one.triples other.triples one.ends other.ends (sym one.lines ∙ other.lines)

@@ -1,8 +1,8 @@
 -- The parts of a plain file, from its front to its end.
 use Rattle.std.specs.Prelude.{◌≡◌, ◌≢◌, ℕ, ◌<◌, ◌≤◌, List, ◌∷◌, ◌++◌, All, Contains, Option, IfSome}
 use Rattle.std.specs.List.Sorted.{IsStrictlySortedBy}
-use Rattle.ts_model.specs.Fact.{Fact, IsTriple}
-use Rattle.ts_model.specs.Order.{fact_cmp}
+use Rattle.ts_model.specs.TextTriple.{TextTriple, IsTriple}
+use Rattle.ts_model.specs.Order.{triple_cmp}
 use Rattle.ts_plain.specs.PlainFile.{change_lines}
 
 -- no line feed stands in the text
@@ -18,12 +18,12 @@ abbrev pub HasNoSign : ℕ → List ℕ → Type 0
 HasNoSign sign bytes = (rest : List ℕ) → bytes ≢ sign ∷ 0x20 ∷ rest
 
 -- the lines of a sign at the front of the bytes are those of triples that rise, and the rest follows them
-pub record IsSection (sign : ℕ) (bytes : List ℕ) (facts : List Fact) (rest : List ℕ) : Type 0 where
-  pub rise : IsStrictlySortedBy fact_cmp facts
-  pub triples : All IsTriple facts
+pub record IsSection (sign : ℕ) (bytes : List ℕ) (these : List TextTriple) (rest : List ℕ) : Type 0 where
+  pub rise : IsStrictlySortedBy triple_cmp these
+  pub triples : All IsTriple these
   pub ends : HasNoSign sign rest
-  pub lines : bytes ≡ change_lines sign facts ++ rest
+  pub lines : bytes ≡ change_lines sign these ++ rest
 
 -- no triple stands in both
-abbrev pub AreApart : List Fact → List Fact → Type 0
-AreApart additions removals = (fact : Fact) → Contains additions fact → Contains removals fact → ⊥
+abbrev pub AreApart : List TextTriple → List TextTriple → Type 0
+AreApart additions removals = (triple : TextTriple) → Contains additions triple → Contains removals triple → ⊥

@@ -1,7 +1,7 @@
 ghost use Rattle.std.specs.Prelude.{◌≡◌, map, unwrap_or, IfOk, OnOk};
 ghost use Rattle.std.specs.List.{list_any};
 ghost use Rattle.ts_model.specs.Birth.{has_term, is_term};
-ghost use Rattle.ts_model.specs.Spelled.{Spelled};
+ghost use Rattle.ts_model.specs.TextTerm.{TextTerm};
 ghost use Rattle.ts_plain.specs.Chain.{birth_over};
 ghost use Rattle.ts_plain.specs.Held.{birth_in, noted};
 
@@ -15,7 +15,7 @@ pub(crate) fn births<'a>(
     alloc: Global,
     chain: &[&'a PlainLayer],
 ) -> Result<BTreeMap<&'a Term, usize>, AllocError>
-    ensures { IfOk result (λ births. (term : Spelled)
+    ensures { IfOk result (λ births. (term : TextTerm)
         → birth_in births term ≡ birth_over (map (λ layer. layer.now) chain.now) term) }
 {
     let mut births = BTreeMap::new(alloc);
@@ -30,7 +30,7 @@ fn note_layer<'a>(
     additions: &'a [Triple],
     place: usize,
 ) -> Result<(), AllocError>
-    ensures { OnOk result ((term : Spelled) → birth_in births.new term
+    ensures { OnOk result ((term : TextTerm) → birth_in births.new term
         ≡ noted (birth_in births.old term) (list_any (has_term term) additions.now) place) }
 {
     for triple in additions {
@@ -44,7 +44,7 @@ fn note_triple<'a>(
     triple: &'a Triple,
     place: usize,
 ) -> Result<(), AllocError>
-    ensures { OnOk result ((term : Spelled) → birth_in births.new term
+    ensures { OnOk result ((term : TextTerm) → birth_in births.new term
         ≡ noted (birth_in births.old term) (has_term term triple.now) place) }
 {
     note(births, triple.subject(), place)?;
@@ -59,7 +59,7 @@ fn note<'a>(
     term: &'a Term,
     place: usize,
 ) -> Result<(), AllocError>
-    ensures { OnOk result ((other : Spelled) → birth_in births.new other
+    ensures { OnOk result ((other : TextTerm) → birth_in births.new other
         ≡ noted (birth_in births.old other) (is_term other term.now) place) }
 {
     if !births.contains_key(&term) {

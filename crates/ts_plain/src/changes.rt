@@ -1,7 +1,7 @@
 ghost use Rattle.std.specs.Prelude.{◌≡◌, ◌≢◌, ◌↔◌, ◌∷◌, [], ◌++◌, List, ℕ, IfOk, IfErr, IsTrue};
 ghost use Rattle.std.specs.List.Sorted.{IsStrictlySortedBy};
-ghost use Rattle.ts_model.specs.Fact.{Fact, IsTriple};
-ghost use Rattle.ts_model.specs.Order.{fact_cmp};
+ghost use Rattle.ts_model.specs.TextTriple.{TextTriple, IsTriple};
+ghost use Rattle.ts_model.specs.Order.{triple_cmp};
 ghost use Rattle.ts_nt.specs.TripleLine.{triple_line};
 ghost use Rattle.ts_plain.specs.PlainReading.{HasNoEnd, IsSection};
 
@@ -33,7 +33,7 @@ pub fn read_changes<'a>(
     written: &mut Vec<u8>,
 ) -> Result<Changes<'a>, PlainError>
     ensures ok { IfOk result (λ changes. IsSection sign bytes.now changes.triples.items changes.rest.now) }
-    ensures err { IfErr result (λ e. e ≡ PlainError.NotPlain → (facts : List Fact) (rest : List ℕ) → IsSection sign bytes.now facts rest → ⊥) }
+    ensures err { IfErr result (λ e. e ≡ PlainError.NotPlain → (triples : List TextTriple) (rest : List ℕ) → IsSection sign bytes.now triples rest → ⊥) }
 {
     let mut triples = Vec::new(alloc);
     let mut rest = bytes;
@@ -50,8 +50,8 @@ pub fn read_changes<'a>(
 
 /// Whether a triple is above the last of rising ones.
 fn rises(triples: &[Triple], next: &Triple) -> bool
-    requires { IsStrictlySortedBy fact_cmp triples.now }
-    ensures { IsTrue result ↔ IsStrictlySortedBy fact_cmp (triples.now ++ next.now ∷ []) }
+    requires { IsStrictlySortedBy triple_cmp triples.now }
+    ensures { IsTrue result ↔ IsStrictlySortedBy triple_cmp (triples.now ++ next.now ∷ []) }
 {
     match triples.last() {
         Some(last) => last < next,
@@ -66,7 +66,7 @@ fn read_change<'a>(
     written: &mut Vec<u8>,
 ) -> Result<Change<'a>, PlainError>
     ensures ok { IfOk result (λ change. IsTriple change.triple × (bytes.now ≡ triple_line change.triple ++ change.rest.now)) }
-    ensures err { IfErr result (λ e. e ≡ PlainError.NotPlain → (fact : Fact) (rest : List ℕ) → IsTriple fact → bytes.now ≢ triple_line fact ++ rest) }
+    ensures err { IfErr result (λ e. e ≡ PlainError.NotPlain → (triple : TextTriple) (rest : List ℕ) → IsTriple triple → bytes.now ≢ triple_line triple ++ rest) }
 {
     let Some(line) = first_line(bytes) else {
         return Err(PlainError::NotPlain);
@@ -81,7 +81,7 @@ fn read_change<'a>(
 /// The triple whose line the text is, as it is written.
 fn read_written(alloc: Global, text: &[u8], written: &mut Vec<u8>) -> Result<Triple, PlainError>
     ensures ok { IfOk result (λ triple. IsTriple triple × (triple_line triple ≡ text.now ++ 0x0A ∷ [])) }
-    ensures err { IfErr result (λ e. e ≡ PlainError.NotPlain → (fact : Fact) → IsTriple fact → triple_line fact ≢ text.now ++ 0x0A ∷ []) }
+    ensures err { IfErr result (λ e. e ≡ PlainError.NotPlain → (triple : TextTriple) → IsTriple triple → triple_line triple ≢ text.now ++ 0x0A ∷ []) }
 {
     let signed = match read_line(alloc, text) {
         Ok(Some(signed)) => signed,

@@ -2,8 +2,8 @@ ghost use Rattle.std.specs.Prelude.{◌≡◌, ◌&&◌, ◌||◌, not, map, IfO
 ghost use Rattle.std.specs.List.{list_any};
 ghost use Rattle.std.specs.List.Sorted.{IsStrictlySortedBy};
 ghost use Rattle.std.specs.Ordering.{eq_by_cmp};
-ghost use Rattle.ts_model.specs.Fact.{Fact};
-ghost use Rattle.ts_model.specs.Order.{fact_cmp};
+ghost use Rattle.ts_model.specs.TextTriple.{TextTriple};
+ghost use Rattle.ts_model.specs.Order.{triple_cmp};
 ghost use Rattle.ts_model.specs.Sets.{members};
 ghost use Rattle.ts_plain.specs.Chain.{content_over};
 ghost use Rattle.ts_plain.specs.Held.{holds};
@@ -29,17 +29,17 @@ pub(crate) fn content<'a>(
 }
 
 fn apply<'a>(standing: &mut BTreeSet<&'a Triple>, layer: &'a PlainLayer) -> Result<(), AllocError>
-    ensures { OnOk result ((fact : Fact) → holds standing.new fact
-        ≡ ((holds standing.old fact && not (list_any (eq_by_cmp fact_cmp fact) layer.now.removals.items))
-        || list_any (eq_by_cmp fact_cmp fact) layer.now.additions.items)) }
+    ensures { OnOk result ((triple : TextTriple) → holds standing.new triple
+        ≡ ((holds standing.old triple && not (list_any (eq_by_cmp triple_cmp triple) layer.now.removals.items))
+        || list_any (eq_by_cmp triple_cmp triple) layer.now.additions.items)) }
 {
     remove_all(standing, layer.removals.as_slice());
     insert_all(standing, layer.additions.as_slice())
 }
 
 fn remove_all<'a>(standing: &mut BTreeSet<&'a Triple>, triples: &'a [Triple])
-    ensures { (fact : Fact) → holds standing.new fact
-        ≡ (holds standing.old fact && not (list_any (eq_by_cmp fact_cmp fact) triples.now)) }
+    ensures { (triple : TextTriple) → holds standing.new triple
+        ≡ (holds standing.old triple && not (list_any (eq_by_cmp triple_cmp triple) triples.now)) }
 {
     for triple in triples {
         standing.remove(&triple);
@@ -50,8 +50,8 @@ fn insert_all<'a>(
     standing: &mut BTreeSet<&'a Triple>,
     triples: &'a [Triple],
 ) -> Result<(), AllocError>
-    ensures { OnOk result ((fact : Fact) → holds standing.new fact
-        ≡ (holds standing.old fact || list_any (eq_by_cmp fact_cmp fact) triples.now)) }
+    ensures { OnOk result ((triple : TextTriple) → holds standing.new triple
+        ≡ (holds standing.old triple || list_any (eq_by_cmp triple_cmp triple) triples.now)) }
 {
     for triple in triples {
         standing.insert(triple)?;
@@ -62,7 +62,7 @@ fn insert_all<'a>(
 fn rising<'a>(alloc: Global, standing: &BTreeSet<&'a Triple>) -> Result<Vec<&'a Triple>, AllocError>
     ensures items { IfOk result (λ triples.
         map (λ triple. triple.now) triples.items ≡ map (λ triple. triple.now) standing.now.keys) }
-    ensures rise { IsStrictlySortedBy fact_cmp (map (λ triple. triple.now) standing.now.keys) }
+    ensures rise { IsStrictlySortedBy triple_cmp (map (λ triple. triple.now) standing.now.keys) }
 {
     standing.iter().copied().collect(alloc)
 }

@@ -1,7 +1,7 @@
 ghost use Rattle.std.specs.Prelude.{◌≡◌, ◌↔◌, ℕ, List, [], IfOk, IfErr, IsTrue, Option};
 ghost use Rattle.std.specs.List.Sorted.{IsStrictlySortedBy};
-ghost use Rattle.ts_model.specs.Fact.{Fact};
-ghost use Rattle.ts_model.specs.Order.{fact_cmp};
+ghost use Rattle.ts_model.specs.TextTriple.{TextTriple};
+ghost use Rattle.ts_model.specs.Order.{triple_cmp};
 ghost use Rattle.ts_plain.specs.PlainFile.{plain_file};
 ghost use Rattle.ts_plain.specs.PlainReading.{AreApart};
 ghost use Rattle.ts_plain.specs.PlainRules.{IsPlainLayer};
@@ -50,7 +50,7 @@ impl From<AllocFailed<Triple>> for PlainError {
 pub fn read_plain(alloc: Global, bytes: &[u8], number: u32) -> Result<PlainLayer, PlainError>
     ensures ok { IfOk result (λ layer. (layer.number ≡ number) × IsPlainLayer number layer.parent layer.additions.items layer.removals.items
         × (bytes.now ≡ plain_file number layer.parent layer.additions.items layer.removals.items)) }
-    ensures err { IfErr result (λ e. e ≡ PlainError.NotPlain → (parent : Option ℕ) (additions removals : List Fact) → IsPlainLayer number parent additions removals
+    ensures err { IfErr result (λ e. e ≡ PlainError.NotPlain → (parent : Option ℕ) (additions removals : List TextTriple) → IsPlainLayer number parent additions removals
         → bytes.now ≡ plain_file number parent additions removals → ⊥) }
 {
     let Some(head) = read_head(bytes, number) else {
@@ -73,8 +73,8 @@ pub fn read_plain(alloc: Global, bytes: &[u8], number: u32) -> Result<PlainLayer
 
 /// Whether the changes have no triple in common, and a base has no removals.
 fn fit(parent: Option<u32>, additions: &[Triple], removals: &[Triple]) -> bool
-    requires additions { IsStrictlySortedBy fact_cmp additions.now }
-    requires removals { IsStrictlySortedBy fact_cmp removals.now }
+    requires additions { IsStrictlySortedBy triple_cmp additions.now }
+    requires removals { IsStrictlySortedBy triple_cmp removals.now }
     ensures { IsTrue result ↔ (AreApart additions.now removals.now × (parent ≡ Option.None → removals.now ≡ [])) }
 {
     (parent.is_some() || removals.is_empty()) && are_apart(additions, removals)

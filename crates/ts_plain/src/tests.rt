@@ -1,8 +1,8 @@
 ghost use Rattle.std.specs.Prelude.{◌≡◌, true, false, map, IfOk, IsTrue};
 ghost use Rattle.std.specs.FinMap.{contains_key};
 ghost use Rattle.std.specs.Ordering.{eq_by_cmp};
-ghost use Rattle.ts_model.specs.Fact.{IsTriple};
-ghost use Rattle.ts_model.specs.Order.{fact_cmp};
+ghost use Rattle.ts_model.specs.TextTriple.{IsTriple};
+ghost use Rattle.ts_model.specs.Order.{triple_cmp};
 ghost use Rattle.ts_plain.specs.History.{AreHistory, history_of};
 
 use crate::{PlainLayer, plain_listing, write_plain};
@@ -79,9 +79,9 @@ fn story<'a>(
     y: &'a Triple,
     z: &'a Triple,
 ) -> Result<Vec<PlainLayer>, AllocError>
-    requires rise { fact_cmp x.now y.now ≡ Ordering.Less }
-    requires not_first { eq_by_cmp fact_cmp z.now x.now ≡ false }
-    requires not_second { eq_by_cmp fact_cmp z.now y.now ≡ false }
+    requires rise { triple_cmp x.now y.now ≡ Ordering.Less }
+    requires not_first { eq_by_cmp triple_cmp z.now x.now ≡ false }
+    requires not_second { eq_by_cmp triple_cmp z.now y.now ≡ false }
     ensures { IfOk result (λ layers. AreHistory layers.items
         × IsTrue (contains_key (history_of layers.items) 2)
         × IsTrue (contains_key (history_of layers.items) 3)) }
@@ -110,9 +110,9 @@ fn written(alloc: Global, triples: &[Triple]) -> Result<Vec<u8>, AllocError> {
 
 /// Whether the first is below the second, and the third is another.
 fn can_tell(x: &Triple, y: &Triple, z: &Triple) -> bool
-    ensures rise { result ≡ true → fact_cmp x.now y.now ≡ Ordering.Less }
-    ensures not_first { result ≡ true → eq_by_cmp fact_cmp z.now x.now ≡ false }
-    ensures not_second { result ≡ true → eq_by_cmp fact_cmp z.now y.now ≡ false }
+    ensures rise { result ≡ true → triple_cmp x.now y.now ≡ Ordering.Less }
+    ensures not_first { result ≡ true → eq_by_cmp triple_cmp z.now x.now ≡ false }
+    ensures not_second { result ≡ true → eq_by_cmp triple_cmp z.now y.now ≡ false }
 {
     matches!(x.cmp(y), Ordering::Less) && z != x && z != y
 }

@@ -4,13 +4,13 @@ use Rattle.std.specs.Prelude.{nat_le}
 use Rattle.std.proofs.lemmas.Bool.{leb-false, leb-true}
 use Rattle.ts_model.specs.declared.signed.Sign.{Sign}
 use Rattle.ts_model.specs.declared.signed.SignedTriple.{SignedTriple}
-use Rattle.ts_model.specs.Fact.{Fact, IsTriple}
+use Rattle.ts_model.specs.TextTriple.{TextTriple, IsTriple}
 use Rattle.ts_nt.specs.LineRead.{Answers, IsBad, IsReadAs, IsSilent, IsTooLong, IsWithinLimits, Spells}
 use Rattle.ts_nt.proofs.ScalarLaws.{All-chars}
 use Rattle.ts_nt.proofs.TripleLaws.{silent_is_none, text_canonical, text_once}
 
-silent_or_spells : (line : List ℕ) (sign : Sign) (fact : Fact) → IsSilent line → Spells line sign fact → ⊥
-silent_or_spells line sign fact silent spells = silent_is_none (chars line) silent.1 sign fact spells.1
+silent_or_spells : (line : List ℕ) (sign : Sign) (triple : TextTriple) → IsSilent line → Spells line sign triple → ⊥
+silent_or_spells line sign triple silent spells = silent_is_none (chars line) silent.1 sign triple spells.1
 
 pub answer_once : (line : List ℕ) (a b : Option SignedTriple) → Answers line a → Answers line b → a ≡ b
 answer_once line None None one other = refl
@@ -30,14 +30,14 @@ bad_unanswered line (Some signed) bad read = bad.2 signed.sign signed.triple rea
 
 pub long_unanswered : (line : List ℕ) (answer : Option SignedTriple) → IsTooLong line → Answers line answer → ⊥
 long_unanswered line answer (inl over) read = let within = answered_within line answer read in omega (arith, within)
-long_unanswered line None (inr (sign, fact, spells, over)) read = silent_or_spells line sign fact read.1 spells
-long_unanswered line (Some signed) (inr (sign, fact, spells, over)) read =
-    let same = text_once (chars line) sign signed.sign fact signed.triple spells.1 read.1.1 in
+long_unanswered line None (inr (sign, triple, spells, over)) read = silent_or_spells line sign triple read.1 spells
+long_unanswered line (Some signed) (inr (sign, triple, spells, over)) read =
+    let same = text_once (chars line) sign signed.sign triple signed.triple spells.1 read.1.1 in
     over (subst IsWithinLimits (sym same.1) read.2)
 
 pub bad_or_long : (line : List ℕ) → IsBad line → IsTooLong line → ⊥
 bad_or_long line bad (inl over) = omega arith
-bad_or_long line bad (inr (sign, fact, spells, over)) = bad.2 sign fact spells
+bad_or_long line bad (inr (sign, triple, spells, over)) = bad.2 sign triple spells
 
 -- a line has an answer, or is at fault
 pub answered_or_fault : (line : List ℕ) → (IsBad line → ⊥) → (IsTooLong line → ⊥) → ((answer : Option SignedTriple) → Answers line answer → ⊥) → ⊥
@@ -50,8 +50,8 @@ answered_or_fault line not_bad not_long unanswered = by_length (nat_le (length l
         not_bad (
           within,
           λ silent. unanswered None (within, silent),
-          λ sign fact spells.
-              not_long (inr (sign, fact, spells, λ small. unanswered (Some (record { sign = sign; triple = fact })) (within, spells, small))),
+          λ sign triple spells.
+              not_long (inr (sign, triple, spells, λ small. unanswered (Some (record { sign = sign; triple = triple })) (within, spells, small))),
         )
 
 -- what a line is read as is a triple

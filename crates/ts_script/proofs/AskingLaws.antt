@@ -6,9 +6,9 @@ use Rattle.std.proofs.lemmas.Nat.{from_be_bytes-to_be_bytes_4}
 use Rattle.ts_model.specs.declared.pattern.Pattern.{Pattern}
 use Rattle.ts_model.specs.declared.term.TermKind.{TermKind}
 use Rattle.ts_model.specs.declared.term.TermKind.TheVariants.{Node, Value}
-use Rattle.ts_model.specs.Fact.{Fact, HasKinds}
+use Rattle.ts_model.specs.TextTriple.{TextTriple, HasKinds}
 use Rattle.ts_model.specs.LayerText.{layer_text}
-use Rattle.ts_model.specs.Spelled.{Spelled}
+use Rattle.ts_model.specs.TextTerm.{TextTerm}
 use Rattle.ts_model.proofs.LayerLemmas.{decoded}
 use Rattle.ts_nt.specs.Parts.{object_kind}
 use Rattle.ts_nt.specs.Terms.{TermAt}
@@ -44,13 +44,13 @@ ref_once word (Layer a) (Layer b) one other = ap Layer (layer_once word a b one 
 -- ---- terms
 
 -- a word spells one term of a kind
-term_word_once : (word : List ℕ) (kind : TermKind) (a b : Spelled) → a.kind ≡ kind → b.kind ≡ kind → IsTermWord word a → IsTermWord word b → a ≡ b
+term_word_once : (word : List ℕ) (kind : TermKind) (a b : TextTerm) → a.kind ≡ kind → b.kind ≡ kind → IsTermWord word a → IsTermWord word b → a ≡ b
 term_word_once word kind a b is is' one other =
     let same = term_once kind (chars word) a.spelling b.spelling [] []
     (subst (λ k. TermAt k (chars word) a.spelling []) is one.0.1) (subst (λ k. TermAt k (chars word) b.spelling []) is' other.0.1) in
     λ i. record { kind = (is ∙ sym is') i; spelling = same.0 i }
 
-object_once : (word : List ℕ) (a b : Spelled) → (a.kind ≡ Node) ⊎ (a.kind ≡ Value) → (b.kind ≡ Node) ⊎ (b.kind ≡ Value) → IsTermWord word a → IsTermWord word b → a ≡ b
+object_once : (word : List ℕ) (a b : TextTerm) → (a.kind ≡ Node) ⊎ (a.kind ≡ Value) → (b.kind ≡ Node) ⊎ (b.kind ≡ Value) → IsTermWord word a → IsTermWord word b → a ≡ b
 object_once word a b kinds kinds' one other =
     term_word_once word (object_kind (chars word)) a b
     (kind_once a.kind (chars word) a.spelling [] kinds one.0.1) (kind_once b.kind (chars word) b.spelling [] kinds' other.0.1) one other
@@ -61,7 +61,7 @@ open_once : (a b : Pattern) → IsOpen a → IsOpen b → a ≡ b
 open_once a b one other =
     λ i. record { subject = (one.0 ∙ sym other.0) i; predicate = (one.1 ∙ sym other.1) i; object = (one.2 ∙ sym other.2) i }
 
-triple_once : (s p o : List ℕ) (a b : Fact) → HasKinds a.subject a.predicate a.object → HasKinds b.subject b.predicate b.object
+triple_once : (s p o : List ℕ) (a b : TextTriple) → HasKinds a.subject a.predicate a.object → HasKinds b.subject b.predicate b.object
     → IsTermWord s a.subject → IsTermWord s b.subject → IsTermWord p a.predicate → IsTermWord p b.predicate → IsTermWord o a.object → IsTermWord o b.object → a ≡ b
 triple_once s p o a b kinds kinds' subject subject' predicate predicate' object object' =
     let subjects = term_word_once s _ a.subject b.subject kinds.0 kinds'.0 subject subject' in

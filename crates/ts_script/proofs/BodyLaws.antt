@@ -3,7 +3,7 @@ use Rattle.std.proofs.Common.{◌≡◌, ◌⊎◌, inl, inr, ℕ, ◌+◌, List
 use Rattle.std.specs.Prelude.{flat_map, Option, None, Some, option_to_list}
 use Rattle.std.proofs.lemmas.List.Elements.{All-cons, All-nil}
 use Rattle.ts_model.specs.declared.signed.SignedTriple.{SignedTriple}
-use Rattle.ts_model.specs.Fact.{IsTriple}
+use Rattle.ts_model.specs.TextTriple.{IsTriple}
 use Rattle.ts_nt.specs.LineRead.{Answers, IsBad, IsTooLong}
 use Rattle.ts_script.specs.Body.{AreReadAs, SpellBody, IsFirstFault, IsBaseCommand}
 use Rattle.ts_script.specs.declared.command.Command.{Command}

@@ -1,7 +1,7 @@
 -- Words and the lines behind them are one command, or none.
 use Rattle.std.proofs.Common.{◌≡◌, inl, inr, ℕ, Bool, true, false, List, refl, All, sym, ◌∙◌, true≢false}
 use Rattle.ts_model.specs.declared.signed.SignedTriple.{SignedTriple}
-use Rattle.ts_model.specs.Fact.{IsTriple}
+use Rattle.ts_model.specs.TextTriple.{IsTriple}
 use Rattle.ts_script.specs.Words.{IsCommand, IsNoCommand, are_base}
 use Rattle.ts_script.specs.declared.command.Command.{Command}
 use Rattle.ts_script.specs.declared.command.Command.TheVariants as command

@@ -3,12 +3,12 @@ use Rattle.std.proofs.Common.{◌≡◌, ◌⊎◌, inl, inr, ℕ, ◌<◌, ◌�
 use Rattle.std.specs.Str.{chars}
 use Rattle.ts_model.specs.declared.term.TermKind.{TermKind}
 use Rattle.ts_model.specs.declared.term.TermKind.TheVariants.{Node, Value}
-use Rattle.ts_model.specs.Spelled.{Spelled}
+use Rattle.ts_model.specs.TextTerm.{TextTerm}
 use Rattle.ts_nt.specs.LineRead.{SpellsTerm}
 use Rattle.ts_script.specs.Words.{IsTermWord}
 
 -- an object is of the kind that its word can be
-pub kind_of-object : (word : List ℕ) (kind : TermKind) (term : Spelled) → ((spelling : List ℕ) → SpellsTerm word Node spelling → kind ≡ Node)
+pub kind_of-object : (word : List ℕ) (kind : TermKind) (term : TextTerm) → ((spelling : List ℕ) → SpellsTerm word Node spelling → kind ≡ Node)
     → ((spelling : List ℕ) → SpellsTerm word Value spelling → kind ≡ Value) → (term.kind ≡ Node) ⊎ (term.kind ≡ Value) → IsTermWord word term → term.kind ≡ kind
 kind_of-object word kind term node value (inl is) spells =
     is ∙ sym (node term.spelling (subst (λ (k : TermKind). SpellsTerm word k term.spelling) is spells.0))

@@ -2,9 +2,9 @@
 use Rattle.std.specs.Prelude.{◌≡◌, ◌⊎◌, ℕ, ◌^◌, ◌<◌, ◌≤◌, Bool, true, false, List, [], ◌∷◌, length, codes, None}
 use Rattle.std.specs.Str.{bytes_eq}
 use Rattle.ts_model.specs.declared.pattern.Pattern.{Pattern}
-use Rattle.ts_model.specs.Fact.{HasKinds}
+use Rattle.ts_model.specs.TextTriple.{HasKinds}
 use Rattle.ts_model.specs.LayerText.{layer_text}
-use Rattle.ts_model.specs.Spelled.{Spelled}
+use Rattle.ts_model.specs.TextTerm.{TextTerm}
 use Rattle.ts_nt.specs.LineRead.{SpellsTerm}
 use Rattle.ts_script.specs.Body.{IsBaseCommand}
 use Rattle.ts_script.specs.declared.command.LayerRef.{LayerRef}
@@ -33,7 +33,7 @@ abbrev pub IsRefWord : List ℕ → Ref → Type 0
 IsRefWord word (Layer layer) = IsLayerWord word layer
 
 -- the word spells this term, within the limit of a term
-abbrev pub IsTermWord : List ℕ → Spelled → Type 0
+abbrev pub IsTermWord : List ℕ → TextTerm → Type 0
 IsTermWord word term = SpellsTerm word term.kind term.spelling × (length term.spelling ≤ 1048576)
 
 -- no term is given

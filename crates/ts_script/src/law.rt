@@ -1,6 +1,6 @@
 // What is true of every command.
 ghost use Rattle.std.specs.Prelude.{◌≡◌, ℕ, List, All};
-ghost use Rattle.ts_model.specs.Fact.{IsTriple};
+ghost use Rattle.ts_model.specs.TextTriple.{IsTriple};
 ghost use Rattle.ts_model.specs.declared.signed.SignedTriple.{SignedTriple};
 ghost use Rattle.ts_script.specs.Words.{IsCommand, IsNoCommand};
 ghost use Rattle.ts_script.specs.declared.command.Command.{Command};

@@ -1,7 +1,7 @@
 // The commands without a body, read from their words.
 ghost use Rattle.std.specs.Prelude.{◌≡◌, ◌⊎◌, ◌∷◌, [], List, ℕ, map, IfOk, IfSome, IfNone, string_bytes};
-ghost use Rattle.ts_model.specs.Fact.{Fact, HasKinds};
-ghost use Rattle.ts_model.specs.Spelled.{Spelled};
+ghost use Rattle.ts_model.specs.TextTriple.{TextTriple, HasKinds};
+ghost use Rattle.ts_model.specs.TextTerm.{TextTerm};
 ghost use Rattle.ts_nt.specs.LineRead.{SpellsTerm};
 ghost use Rattle.ts_script.specs.Words.{AsksFor, IsLayerWord, IsRefWord, IsTermWord};
 
@@ -98,7 +98,7 @@ fn read_triple(
 ) -> Result<Option<Triple>, AllocError>
     ensures some { IfOk result (λ read. IfSome read (λ triple. HasKinds triple.subject triple.predicate triple.object
         × IsTermWord subject.now triple.subject × IsTermWord predicate.now triple.predicate × IsTermWord object.now triple.object)) }
-    ensures none { IfOk result (λ read. IfNone read ((triple : Fact) → HasKinds triple.subject triple.predicate triple.object
+    ensures none { IfOk result (λ read. IfNone read ((triple : TextTriple) → HasKinds triple.subject triple.predicate triple.object
         → IsTermWord subject.now triple.subject → IsTermWord predicate.now triple.predicate → IsTermWord object.now triple.object → ⊥)) }
 {
     let Some(subject) = read_word(alloc, subject, TermKind::Node)? else {
@@ -116,7 +116,7 @@ fn read_triple(
 /// The term of this kind that a word spells.
 fn read_word(alloc: Global, word: &str, kind: TermKind) -> Result<Option<Term>, AllocError>
     ensures some { IfOk result (λ read. IfSome read (λ term. (term.kind ≡ kind) × IsTermWord word.now term)) }
-    ensures none { IfOk result (λ read. IfNone read ((term : Spelled) → term.kind ≡ kind → IsTermWord word.now term → ⊥)) }
+    ensures none { IfOk result (λ read. IfNone read ((term : TextTerm) → term.kind ≡ kind → IsTermWord word.now term → ⊥)) }
 {
     read_term(alloc, word.as_bytes(), kind)
 }

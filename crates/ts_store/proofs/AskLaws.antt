@@ -6,11 +6,11 @@ use Rattle.std.specs.List.{list_any}
 use Rattle.std.specs.Ordering.{eq_by_cmp}
 use Rattle.std.specs.FinMap.{get}
 use Rattle.ts_model.specs.declared.pattern.Pattern.{Pattern}
-use Rattle.ts_model.specs.Fact.{Fact}
+use Rattle.ts_model.specs.TextTriple.{TextTriple}
 use Rattle.ts_model.specs.Fits.{fits}
 use Rattle.ts_model.specs.History.{LayerRecord, content_at}
 use Rattle.ts_model.specs.Listing.{select}
-use Rattle.ts_model.specs.Order.{fact_cmp}
+use Rattle.ts_model.specs.Order.{triple_cmp}
 use Rattle.ts_model.specs.Sets.{contains}
 use Rattle.ts_script.specs.declared.command.LayerRef.{LayerRef}
 use Rattle.ts_script.specs.declared.command.LayerRef.TheVariants.{Number}
@@ -43,16 +43,16 @@ module _ (layers : List Loaded) (last : Option ℕ) where
     pub asked_nothing : (pattern : Pattern) → resolve state named ≡ None → step_of state (command.Listing (AtLayer named) pattern) ≡ refuses state (refusal.NoLayer named)
     asked_nothing pattern none = ap (λ o. answered state named o (λ k. listing_text (select (history_kept layers) k pattern))) none
 
-    pub has_nothing : (triple : Fact) → resolve state named ≡ None → step_of state (command.Has (AtLayer named) triple) ≡ refuses state (refusal.NoLayer named)
+    pub has_nothing : (triple : TextTriple) → resolve state named ≡ None → step_of state (command.Has (AtLayer named) triple) ≡ refuses state (refusal.NoLayer named)
     has_nothing triple none = ap (λ o. answered state named o (λ k. has_text (contains (content_at (history_kept layers) k) triple))) none
 
     module _ (found : Loaded) (sound : IsLoaded found) (is : resolve state named ≡ Some found.number) (stands : get (history_kept layers) found.number ≡ Some (base_record found.triples.items)) where
       pub asked_listing : (pattern : Pattern) → step_of state (command.Listing (AtLayer named) pattern) ≡ does state (listing_text (filter (fits pattern) found.triples.items))
       asked_listing pattern =
           ap (λ o. answered state named o (λ k. listing_text (select (history_kept layers) k pattern))) is
-          ∙ ap (λ facts. does state (listing_text (filter (fits pattern) facts))) (listing-base (history_kept layers) found.triples.items found.number sound.number.0 stands sound.rises)
+          ∙ ap (λ triples. does state (listing_text (filter (fits pattern) triples))) (listing-base (history_kept layers) found.triples.items found.number sound.number.0 stands sound.rises)
 
-      pub asked_has : (triple : Fact) → step_of state (command.Has (AtLayer named) triple) ≡ does state (has_text (list_any (eq_by_cmp fact_cmp triple) found.triples.items))
+      pub asked_has : (triple : TextTriple) → step_of state (command.Has (AtLayer named) triple) ≡ does state (has_text (list_any (eq_by_cmp triple_cmp triple) found.triples.items))
       asked_has triple =
           ap (λ o. answered state named o (λ k. has_text (contains (content_at (history_kept layers) k) triple))) is
           ∙ ap (λ b. does state (has_text b)) (contains-base (history_kept layers) found.triples.items found.number sound.number.0 stands triple)

@@ -4,7 +4,7 @@ use Rattle.std.proofs.lemmas.List.{take-append-drop, length-append, length-drop,
 use Rattle.std.proofs.lemmas.List.Elements.{filter_more, filter-append}
 use Rattle.std.proofs.lemmas.List.Concat.{flat_map-append}
 use Rattle.std.proofs.Math.Seq.{take-append_seam}
-use Rattle.ts_model.specs.Fact.{Fact}
+use Rattle.ts_model.specs.TextTriple.{TextTriple}
 use Rattle.ts_nt.specs.TripleLine.{triple_line}
 use Rattle.ts_script.specs.Replies.{line}
 use Rattle.ts_store.specs.declared.stop.Stop.{Stop}
@@ -28,11 +28,11 @@ said_append InputLimit a b one other = lines_append a b one other
 said_append Memory a b one other = lines_append a b one other
 
 -- a triple's line ends with a line
-pub triple_lines : (before : List ℕ) (fact : Fact) → AreLines (before ++ triple_line fact)
-triple_lines before fact = lines_end before (triple_line fact) (spelled, append_assoc _ (0x20 ∷ 0x2E ∷ []) (10 ∷ []))
+pub triple_lines : (before : List ℕ) (triple : TextTriple) → AreLines (before ++ triple_line triple)
+triple_lines before triple = lines_end before (triple_line triple) (spelled, append_assoc _ (0x20 ∷ 0x2E ∷ []) (10 ∷ []))
   where
     spelled : List ℕ
-    spelled = (fact.subject.spelling ++ 0x20 ∷ [] ++ fact.predicate.spelling ++ 0x20 ∷ [] ++ fact.object.spelling) ++ 0x20 ∷ 0x2E ∷ []
+    spelled = (triple.subject.spelling ++ 0x20 ∷ [] ++ triple.predicate.spelling ++ 0x20 ∷ [] ++ triple.object.spelling) ++ 0x20 ∷ 0x2E ∷ []
 
     lines_end : (before text : List ℕ) → (front : List ℕ) × (front ++ 10 ∷ [] ≡ text) → AreLines (before ++ text)
     lines_end before text (front, is) = inr (before ++ front, ap (λ l. before ++ l) (sym is) ∙ sym (append_assoc before front (10 ∷ [])))

@@ -6,13 +6,13 @@ use Rattle.std.specs.Ordering.{nat_cmp, eq_by_cmp, is_eq}
 use Rattle.std.specs.Cmp.{nat_cmp_total, Equal-is, tied_itself}
 use Rattle.std.specs.FinMap.{empty, get, insert, remove, get-insert, nat_cmp-IsAntisymmetric}
 use Rattle.ts_model.specs.declared.signed.SignedTriple.{SignedTriple}
-use Rattle.ts_model.specs.Fact.{Fact, IsTriple}
+use Rattle.ts_model.specs.TextTriple.{TextTriple, IsTriple}
 use Rattle.ts_model.specs.History.{History, LayerRecord}
 use Rattle.ts_model.specs.NetChange.{net_additions, added}
-use Rattle.ts_model.specs.Order.{fact_cmp}
+use Rattle.ts_model.specs.Order.{triple_cmp}
 use Rattle.ts_model.specs.Sets.{members, from_list}
 use Rattle.ts_model.specs.Totals.{term_count, predicate_count}
-use Rattle.ts_model.proofs.FactSets.{members-empty, from_list-members, difference-empty}
+use Rattle.ts_model.proofs.TripleSets.{members-empty, from_list-members, difference-empty}
 use Rattle.ts_model.proofs.SetLaws.{IsStrictlySortedBy-members}
 use Rattle.ts_plain.specs.PlainFile.{plain_file}
 use Rattle.ts_replace.specs.Names.{IsLayerNumber, layer_name, rollup_name, label_file_name}
@@ -31,21 +31,21 @@ use Rattle.ts_store.proofs.NameLaws.{layer_name-tells, layer_is_not_new, rollup_
 pub added-is : (body : List SignedTriple) → net_additions empty body ≡ added body
 added-is body = difference-empty (added body)
 
-module _ (number : ℕ) (body : List SignedTriple) (additions : List Fact) (are : additions ≡ members (added body)) where
+module _ (number : ℕ) (body : List SignedTriple) (additions : List TextTriple) (are : additions ≡ members (added body)) where
   pub additions_are : additions ≡ members (net_additions empty body)
   additions_are = are ∙ ap members (sym (added-is body))
 
-  pub additions_rise : IsStrictlySortedBy fact_cmp additions
-  additions_rise = subst (IsStrictlySortedBy fact_cmp) (sym are) (IsStrictlySortedBy-members fact_cmp (added body))
+  pub additions_rise : IsStrictlySortedBy triple_cmp additions
+  additions_rise = subst (IsStrictlySortedBy triple_cmp) (sym are) (IsStrictlySortedBy-members triple_cmp (added body))
 
-  module _ (shown : List Fact) (terms predicates : ℕ) (lent : shown ≡ additions) (counts : terms ≡ term_count shown) (predicate_counts : predicates ≡ predicate_count shown) where
+  module _ (shown : List TextTriple) (terms predicates : ℕ) (lent : shown ≡ additions) (counts : terms ≡ term_count shown) (predicate_counts : predicates ≡ predicate_count shown) where
     pub counted_is : (nat_lt terms (2 ^ 32) && nat_lt predicates (2 ^ 32)) ≡ are_counted (members (net_additions empty body))
     counted_is =
-        let facts : shown ≡ members (net_additions empty body) = lent ∙ additions_are in
-        λ i. nat_lt ((counts ∙ ap term_count facts) i) (2 ^ 32) && nat_lt ((predicate_counts ∙ ap predicate_count facts) i) (2 ^ 32)
+        let triples : shown ≡ members (net_additions empty body) = lent ∙ additions_are in
+        λ i. nat_lt ((counts ∙ ap term_count triples) i) (2 ^ 32) && nat_lt ((predicate_counts ∙ ap predicate_count triples) i) (2 ^ 32)
 
     pub is_base_of : (loaded : Loaded) (file : List ℕ) → (nat_lt terms (2 ^ 32) && nat_lt predicates (2 ^ 32)) ≡ true
-        → loaded.number ≡ number → IsLoaded loaded → All IsTriple additions → from_list {R = fact_cmp} loaded.triples.items ≡ from_list additions → file ≡ plain_file number None additions []
+        → loaded.number ≡ number → IsLoaded loaded → All IsTriple additions → from_list {R = triple_cmp} loaded.triples.items ≡ from_list additions → file ≡ plain_file number None additions []
         → IsBaseOf number body loaded file
     is_base_of loaded file left given sound triples same bytes = record {
       counted = sym counted_is ∙ left;

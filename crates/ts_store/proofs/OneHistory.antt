@@ -10,11 +10,11 @@ use Rattle.std.proofs.lemmas.Bool.{cases_lt}
 use Rattle.std.proofs.lemmas.List.{append_cancel_left, append_cancel_right}
 use Rattle.std.proofs.lemmas.List.Elements.{All-contains}
 use Rattle.std.proofs.lemmas.Map.Views.{Contains-from_any}
-use Rattle.ts_model.specs.Fact.{Fact, IsTriple}
+use Rattle.ts_model.specs.TextTriple.{TextTriple, IsTriple}
 use Rattle.ts_model.specs.History.{History, LayerRecord, IsWellKept, parent_at, chain_within, content_of, content_below}
-use Rattle.ts_model.specs.Order.{fact_cmp, fact_cmp-IsAntisymmetric}
+use Rattle.ts_model.specs.Order.{triple_cmp, triple_cmp-IsAntisymmetric}
 use Rattle.ts_model.specs.Sets.{SetOf, contains, members, from_list}
-use Rattle.ts_model.proofs.FactSets.{members-empty, from_list-members}
+use Rattle.ts_model.proofs.TripleSets.{members-empty, from_list-members}
 use Rattle.ts_model.proofs.HistoryLaws.{chain_within-none}
 use Rattle.ts_model.proofs.SetLaws.{contains-members}
 use Rattle.ts_model.proofs.SetAlgebra.{contains-empty}
@@ -29,12 +29,12 @@ use Rattle.ts_store.specs.FolderSays.{FolderSays, IsBase, IsBaseFile, IsDamagedL
 
 -- ---- its history is well kept
 
-only_itself : (x y : Fact) → eq_by_cmp fact_cmp x y ≡ true → x ≡ y
-only_itself x y e = fact_cmp-IsAntisymmetric x y ((Equal-is (fact_cmp x y)).0 e)
+only_itself : (x y : TextTriple) → eq_by_cmp triple_cmp x y ≡ true → x ≡ y
+only_itself x y e = triple_cmp-IsAntisymmetric x y ((Equal-is (triple_cmp x y)).0 e)
 
 -- what holds of each member of a set holds of what the set contains
-all_contained : (P : Fact → Type 0) (set : SetOf fact_cmp) (fact : Fact) → All P (members set) → IsTrue (contains set fact) → P fact
-all_contained P set fact each has = All-contains P (members set) fact each (Contains-from_any only_itself fact (members set) (sym (contains-members fact_cmp set fact) ∙ has))
+all_contained : (P : TextTriple → Type 0) (set : SetOf triple_cmp) (triple : TextTriple) → All P (members set) → IsTrue (contains set triple) → P triple
+all_contained P set triple each has = All-contains P (members set) triple each (Contains-from_any only_itself triple (members set) (sym (contains-members triple_cmp set triple) ∙ has))
 
 -- nothing lies below a base
 content_below-base : (history : History) (k : ℕ) (layer : LayerRecord) → get history k ≡ Some layer → layer.parent ≡ None → content_below history k ≡ empty
@@ -47,11 +47,11 @@ well_kept folder history says k layer is =
     let said = says.numbers k layer is in
     record {
       number = said.0;
-      triples = λ fact has. all_contained IsTriple layer.additions fact said.1.2 has;
+      triples = λ triple has. all_contained IsTriple layer.additions triple said.1.2 has;
       parent = subst (λ (parent : Option ℕ). IfSome parent (λ p. (p < k) × IsTrue (contains_key history p))) (sym said.1.0) tt;
       base = λ none. said.1.1;
-      removed = λ fact has. absurd (true≢false (sym has ∙ ap (λ set. contains set fact) said.1.1 ∙ contains-empty fact_cmp fact));
-      added = λ fact has. ap (λ set. contains set fact) (content_below-base history k layer is said.1.0) ∙ contains-empty fact_cmp fact;
+      removed = λ triple has. absurd (true≢false (sym has ∙ ap (λ set. contains set triple) said.1.1 ∙ contains-empty triple_cmp triple));
+      added = λ triple has. ap (λ set. contains set triple) (content_below-base history k layer is said.1.0) ∙ contains-empty triple_cmp triple;
     }
 
 -- ---- it tells one history
@@ -69,9 +69,9 @@ base_once k layer other base another e =
     let files : plain_file k None (members layer.additions) [] ≡ plain_file k None (members other.additions) [] = sym (base_file k layer base) ∙ e ∙ base_file k other another in
     let fronts : head_line k None ++ change_lines 0x2B (members layer.additions) ≡ head_line k None ++ change_lines 0x2B (members other.additions) = append_cancel_right _ _ [] files in
     let lines : change_lines 0x2B (members layer.additions) ≡ change_lines 0x2B (members other.additions) = append_cancel_left (head_line k None) _ _ fronts in
-    let facts : members layer.additions ≡ members other.additions =
+    let triples : members layer.additions ≡ members other.additions =
     (section_once 0x2B (members layer.additions) (members other.additions) [] [] base.2 another.2 (no_sign 0x2B) (no_sign 0x2B) (ap (λ l. l ++ []) lines)).0 in
-    let sets : layer.additions ≡ other.additions = sym (from_list-members layer.additions) ∙ ap from_list facts ∙ from_list-members other.additions in
+    let sets : layer.additions ≡ other.additions = sym (from_list-members layer.additions) ∙ ap from_list triples ∙ from_list-members other.additions in
     λ i. record { parent = (base.0 ∙ sym another.0) i; additions = sets i; removals = (base.1 ∙ sym another.1) i }
 
 module _ (folder : Folder) where
@@ -103,7 +103,7 @@ module _ (folder : Folder) where
 -- ---- no file of it is damaged
 
 -- the members of a set of triples are additions of a base
-plain_base : (k : ℕ) (set : SetOf fact_cmp) → IsLayerNumber k → All IsTriple (members set) → IsPlainLayer k None (members set) []
+plain_base : (k : ℕ) (set : SetOf triple_cmp) → IsLayerNumber k → All IsTriple (members set) → IsPlainLayer k None (members set) []
 plain_base k set is triples = (KeepsPlainRules-base k set is.0, triples, (λ i d below. absurd (omega arith)))
 
 -- so the file of a base is one of a base

@@ -9,8 +9,8 @@ use Rattle.std.proofs.lemmas.Bool.{cases_lt}
 use Rattle.std.proofs.lemmas.List.{map-append, take_more, get_or-map, get_or-take, length-map, length-take-le}
 use Rattle.std.proofs.lemmas.List.Elements.{All-contains}
 use Rattle.std.proofs.lemmas.Map.Keys.{below_from_sorted, sorted_from_strictly_increasing}
-use Rattle.ts_model.specs.Fact.{Fact, IsTriple}
-use Rattle.ts_model.specs.Order.{fact_cmp, fact_cmp_total, fact_cmp-IsAntisymmetric}
+use Rattle.ts_model.specs.TextTriple.{TextTriple, IsTriple}
+use Rattle.ts_model.specs.Order.{triple_cmp, triple_cmp_total, triple_cmp-IsAntisymmetric}
 use Rattle.ts_model.specs.Sets.{members, from_list}
 use Rattle.ts_model.proofs.SetAlgebra.{members-from_rising}
 use Rattle.ts_plain.specs.PlainFile.{plain_file, head_line, change_lines}
@@ -25,16 +25,16 @@ use Rattle.ts_store.specs.declared.stop.Stop.TheVariants.{Damaged, Memory}
 use Rattle.ts_store.specs.Doing.{IsReadFrom, IsFirstOf}
 use Rattle.ts_store.specs.FolderSays.{IsBaseFile, IsDamagedLayer, file_of}
 use Rattle.ts_store.specs.Loaded.{AreLoaded, IsLoaded, base_record}
-use Rattle.ts_model.proofs.FactSets.{members-empty}
+use Rattle.ts_model.proofs.TripleSets.{members-empty}
 
 -- ---- the bytes of a file
 
 module _ (number : ℕ) (bytes : List ℕ) where
-  pub no_base : ((parent : Option ℕ) (additions removals : List Fact) → IsPlainLayer number parent additions removals → bytes ≡ plain_file number parent additions removals → ⊥) → IsBaseFile number bytes → ⊥
+  pub no_base : ((parent : Option ℕ) (additions removals : List TextTriple) → IsPlainLayer number parent additions removals → bytes ≡ plain_file number parent additions removals → ⊥) → IsBaseFile number bytes → ⊥
   no_base none (additions, layer, is) = none None additions [] layer is
 
   -- a file that names a parent is none of a base
-  pub child_is_no_base : number < 2 ^ 32 → (p : ℕ) (additions removals : List Fact) → IsPlainLayer number (Some p) additions removals → bytes ≡ plain_file number (Some p) additions removals → IsBaseFile number bytes → ⊥
+  pub child_is_no_base : number < 2 ^ 32 → (p : ℕ) (additions removals : List TextTriple) → IsPlainLayer number (Some p) additions removals → bytes ≡ plain_file number (Some p) additions removals → IsBaseFile number bytes → ⊥
   child_is_no_base small p additions removals layer is (others, base, is_base) =
       let same = head_once number (Some p) None (change_lines 0x2B additions ++ change_lines 0x2D removals) (change_lines 0x2B others ++ change_lines 0x2D []) bytes small
       (layer.0.parented, layer.0.parent_fits) tt
@@ -42,13 +42,13 @@ module _ (number : ℕ) (bytes : List ℕ) where
       (is_base ∙ append_assoc (head_line number None) (change_lines 0x2B others) (change_lines 0x2D [])) in
       let none : true ≡ false = ap is_some same.0 in true≢false none
 
-  pub base_file : (additions removals triples : List Fact) → IsPlainLayer number None additions removals → bytes ≡ plain_file number None additions removals
-      → from_list {R = fact_cmp} triples ≡ from_list additions
-      → (bytes ≡ file_of number (base_record triples)) × All IsTriple (members (from_list {R = fact_cmp} triples))
+  pub base_file : (additions removals triples : List TextTriple) → IsPlainLayer number None additions removals → bytes ≡ plain_file number None additions removals
+      → from_list {R = triple_cmp} triples ≡ from_list additions
+      → (bytes ≡ file_of number (base_record triples)) × All IsTriple (members (from_list {R = triple_cmp} triples))
   base_file additions removals triples layer is same =
-      let facts : members (from_list {R = fact_cmp} triples) ≡ additions = ap members same ∙ members-from_rising fact_cmp fact_cmp_total fact_cmp-IsAntisymmetric additions layer.0.additions_rise in
+      let these : members (from_list {R = triple_cmp} triples) ≡ additions = ap members same ∙ members-from_rising triple_cmp triple_cmp_total triple_cmp-IsAntisymmetric additions layer.0.additions_rise in
       let none : removals ≡ members empty = layer.0.parent_fits ∙ sym members-empty in
-      (is ∙ (λ i. plain_file number None (sym facts i) (none i)), subst (All IsTriple) (sym facts) layer.1)
+      (is ∙ (λ i. plain_file number None (sym these i) (none i)), subst (All IsTriple) (sym these) layer.1)
 
 -- ---- the layers of a folder
 
@@ -61,7 +61,7 @@ module _ (folder : Folder) where
 
   abbrev pub Reads : Result Loaded Stop → ℕ → List ℕ → Type 0
   Reads result number bytes =
-      IfOk result (λ loaded. (bytes ≡ file_of number (base_record loaded.triples.items)) × All IsTriple (members (from_list {R = fact_cmp} loaded.triples.items)))
+      IfOk result (λ loaded. (bytes ≡ file_of number (base_record loaded.triples.items)) × All IsTriple (members (from_list {R = triple_cmp} loaded.triples.items)))
 
   abbrev pub Fails : Result Loaded Stop → ℕ → List ℕ → Type 0
   Fails result number bytes = IfErr result (λ stop. (stop ≡ Memory) ⊎ ((stop ≡ Damaged (layer_name number)) × (IsBaseFile number bytes → ⊥)))
@@ -88,7 +88,7 @@ module _ (folder : Folder) where
 
   base_is : (loaded : Loaded) → IsLayerNumber loaded.number → IsReadFrom folder loaded → IsBaseFile loaded.number (file_of loaded.number (base_record loaded.triples.items))
   base_is loaded is read =
-      let set = from_list {R = fact_cmp} loaded.triples.items in
+      let set = from_list {R = triple_cmp} loaded.triples.items in
       (members set, (KeepsPlainRules-base loaded.number set is.0, read.triples, (λ k d below. absurd (omega arith))), ap (plain_file loaded.number None (members set)) members-empty)
 
   -- a layer that was read is not damaged

@@ -51,14 +51,14 @@ module _ (state : State) (counted : AreCounted state.history) (folder : Folder) 
   counted_alone history kept each k layer is =
       let here = each k layer is in
       let alone = added_alone history kept k layer is here.0 in
-      (subst (λ facts. term_count facts < 2 ^ 32) (sym alone) here.1, subst (λ facts. predicate_count facts < 2 ^ 32) (sym alone) here.2)
+      (subst (λ triples. term_count triples < 2 ^ 32) (sym alone) here.1, subst (λ triples. predicate_count triples < 2 ^ 32) (sym alone) here.2)
 
   before : (k : ℕ) (layer : LayerRecord) → get state.history k ≡ Some layer → (layer.parent ≡ None) × (term_count (members layer.additions) < 2 ^ 32) × (predicate_count (members layer.additions) < 2 ^ 32)
   before k layer is =
       let base = (says.numbers k layer is).1.0 in
       let alone = added_alone state.history (well_kept folder state.history says) k layer is base in
       let here = counted k layer is in
-      (base, subst (λ facts. term_count facts < 2 ^ 32) alone here.0, subst (λ facts. predicate_count facts < 2 ^ 32) alone here.1)
+      (base, subst (λ triples. term_count triples < 2 ^ 32) alone here.0, subst (λ triples. predicate_count triples < 2 ^ 32) alone here.1)
 
   abbrev with_base : List SignedTriple → History
   with_base body = insert state.history (next_number state.history) (base_of body)

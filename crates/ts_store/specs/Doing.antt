@@ -2,11 +2,11 @@
 use Rattle.std.specs.Prelude.{◌≡◌, ◌<◌, ℕ, Contains, ◌++◌, ◌∷◌, List, [], All, IsTrue, true, Option, None, Some, IfSome, Result, MatchResult}
 use Rattle.std.specs.FinMap.{empty, contains_key, get}
 use Rattle.ts_model.specs.declared.signed.SignedTriple.{SignedTriple}
-use Rattle.ts_model.specs.Fact.{IsTriple}
+use Rattle.ts_model.specs.TextTriple.{IsTriple}
 use Rattle.ts_model.specs.History.{History}
 use Rattle.ts_model.specs.NetChange.{net_additions}
 use Rattle.ts_model.specs.Sets.{members, from_list}
-use Rattle.ts_model.specs.Order.{fact_cmp}
+use Rattle.ts_model.specs.Order.{triple_cmp}
 use Rattle.ts_plain.specs.PlainFile.{plain_file}
 use Rattle.ts_replace.specs.Names.{layer_name, rollup_name, label_file_name}
 use Rattle.ts_site.specs.Folder.{Folder}
@@ -68,7 +68,7 @@ SaysSoFar result text old new rest = MatchResult result (λ _. SaysFront AreLine
 -- the layer's file is that of these triples
 pub record IsReadFrom (folder : Folder) (loaded : Loaded) : Type 0 where
   pub file : get folder (layer_name loaded.number) ≡ Some (file_of loaded.number (base_record loaded.triples.items))
-  pub triples : All IsTriple (members (from_list {R = fact_cmp} loaded.triples.items))
+  pub triples : All IsTriple (members (from_list {R = triple_cmp} loaded.triples.items))
 
 -- the first damaged one of these layers
 pub record IsFirstOf (folder : Folder) (numbers : List ℕ) (name : List ℕ) : Type 0 where

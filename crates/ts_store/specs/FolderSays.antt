@@ -5,7 +5,7 @@ use Rattle.std.specs.Option.{option_map}
 use Rattle.std.specs.Ordering.{nat_cmp}
 use Rattle.std.specs.Cmp.Lexicographic.{slice_cmp}
 use Rattle.std.specs.FinMap.{empty, get, contains_key}
-use Rattle.ts_model.specs.Fact.{Fact, IsTriple}
+use Rattle.ts_model.specs.TextTriple.{TextTriple, IsTriple}
 use Rattle.ts_model.specs.History.{History, LayerRecord}
 use Rattle.ts_model.specs.Names.{IsLabelName}
 use Rattle.ts_model.specs.Sets.{members}
@@ -31,7 +31,7 @@ pub record FolderSays (folder : Folder) (history : History) : Type 0 where
 
 -- the file is the plain file of a base of this number
 abbrev pub IsBaseFile : ℕ → List ℕ → Type 0
-IsBaseFile k file = (additions : List Fact) × IsPlainLayer k None additions [] × (file ≡ plain_file k None additions [])
+IsBaseFile k file = (additions : List TextTriple) × IsPlainLayer k None additions [] × (file ≡ plain_file k None additions [])
 
 -- the layer stands, and its file is not that of a base
 abbrev pub IsDamagedLayer : Folder → ℕ → Type 0

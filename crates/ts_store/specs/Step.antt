@@ -2,7 +2,7 @@
 use Rattle.std.specs.Prelude.{ℕ, ◌+◌, ◌^◌, Bool, true, false, ◌&&◌, nat_lt, if◌then◌else◌, max, List, [], ◌∷◌, ◌++◌, length, flat_map, Option, None, Some}
 use Rattle.std.specs.FinMap.{empty, insert, keys, contains_key}
 use Rattle.ts_model.specs.declared.signed.SignedTriple.{SignedTriple}
-use Rattle.ts_model.specs.Fact.{Fact}
+use Rattle.ts_model.specs.TextTriple.{TextTriple}
 use Rattle.ts_model.specs.History.{History, LayerRecord, content_at}
 use Rattle.ts_model.specs.Listing.{select}
 use Rattle.ts_model.specs.NetChange.{net_additions}
@@ -48,8 +48,8 @@ abbrev pub asks_at : State → Ref → (ℕ → List ℕ) → Stepped
 asks_at state (AtLayer layer) reply_of = answered state layer (resolve state layer) reply_of
 
 -- a line for each triple, and how many they are
-abbrev pub listing_text : List Fact → List ℕ
-listing_text facts = flat_map triple_line facts ++ reply_text (reply.Total (length facts))
+abbrev pub listing_text : List TextTriple → List ℕ
+listing_text triples = flat_map triple_line triples ++ reply_text (reply.Total (length triples))
 
 abbrev pub has_text : Bool → List ℕ
 has_text true = reply_text reply.Yes
@@ -65,12 +65,12 @@ abbrev pub next_number : History → ℕ
 next_number history = greatest_of (keys history) + 1
 
 -- a number is left for each of the terms and predicates of a base
-abbrev pub are_counted : List Fact → Bool
-are_counted facts = nat_lt (term_count facts) (2 ^ 32) && nat_lt (predicate_count facts) (2 ^ 32)
+abbrev pub are_counted : List TextTriple → Bool
+are_counted triples = nat_lt (term_count triples) (2 ^ 32) && nat_lt (predicate_count triples) (2 ^ 32)
 
 -- and for the base
-abbrev pub is_numbered : History → List Fact → Bool
-is_numbered history facts = nat_lt (next_number history) (2 ^ 32) && are_counted facts
+abbrev pub is_numbered : History → List TextTriple → Bool
+is_numbered history triples = nat_lt (next_number history) (2 ^ 32) && are_counted triples
 
 -- a base layer with the net additions of a body
 abbrev pub base_of : List SignedTriple → LayerRecord

@@ -2,9 +2,9 @@
 ghost use Rattle.std.specs.Prelude.{◌≡◌, ◌≤◌, ◌^◌, ◌&&◌, nat_lt, [], None, All, IfOk, IfErr, MatchOption, true, false};
 ghost use Rattle.std.specs.FinMap.{empty, keys};
 ghost use Rattle.std.specs.List.Sorted.{IsStrictlySortedBy};
-ghost use Rattle.ts_model.specs.Fact.{IsTriple};
+ghost use Rattle.ts_model.specs.TextTriple.{IsTriple};
 ghost use Rattle.ts_model.specs.NetChange.{net_additions};
-ghost use Rattle.ts_model.specs.Order.{fact_cmp};
+ghost use Rattle.ts_model.specs.Order.{triple_cmp};
 ghost use Rattle.ts_model.specs.Sets.{from_list, members};
 ghost use Rattle.ts_plain.specs.PlainFile.{plain_file};
 ghost use Rattle.ts_replace.specs.Names.{IsLayerNumber};
@@ -97,9 +97,9 @@ fn greatest(layers: &[Loaded]) -> u32
 /// The layer of these additions, and its file.
 fn lay(alloc: Global, number: u32, additions: Vec<Triple>) -> Result<Made, AllocError>
     requires number { IsLayerNumber number }
-    requires rise { IsStrictlySortedBy fact_cmp additions.items }
+    requires rise { IsStrictlySortedBy triple_cmp additions.items }
     ensures { IfOk result (λ made. (made.loaded.number ≡ number) × IsLoaded made.loaded × All IsTriple additions.items
-        × (from_list {R = fact_cmp} made.loaded.triples.items ≡ from_list additions.items)
+        × (from_list {R = triple_cmp} made.loaded.triples.items ≡ from_list additions.items)
         × (made.file.items ≡ plain_file number None additions.items [])) }
 {
     are_triples(additions.as_slice());

@@ -1,7 +1,7 @@
 // A layer in memory.
 ghost use Rattle.std.specs.Prelude.{◌≡◌};
 ghost use Rattle.std.specs.List.Sorted.{IsStrictlySortedBy};
-ghost use Rattle.ts_model.specs.Order.{fact_cmp};
+ghost use Rattle.ts_model.specs.Order.{triple_cmp};
 ghost use Rattle.ts_model.specs.Sets.{from_list};
 ghost use Rattle.ts_replace.specs.Names.{IsLayerNumber};
 ghost use Rattle.ts_store.specs.Loaded.{IsLoaded};
@@ -19,10 +19,10 @@ pub struct Loaded {
 /// The base layer of these triples. It takes no memory.
 pub(crate) fn load(number: u32, mut triples: Vec<Triple>) -> Loaded
     requires number { IsLayerNumber number }
-    requires rise { IsStrictlySortedBy fact_cmp triples.items }
+    requires rise { IsStrictlySortedBy triple_cmp triples.items }
     ensures number { result.number ≡ number }
     ensures loaded { IsLoaded result }
-    ensures same { from_list {R = fact_cmp} result.triples.items ≡ from_list triples.items }
+    ensures same { from_list {R = triple_cmp} result.triples.items ≡ from_list triples.items }
 {
     sort(&mut triples);
     Loaded { number, triples }

@@ -2,8 +2,8 @@
 ghost use Rattle.std.specs.Prelude.{◌≡◌, ◌⊎◌, ℕ, List, [], All, IsTrue, IfOk, IfErr, OnOk, map};
 ghost use Rattle.std.specs.FinMap.{contains_key};
 ghost use Rattle.std.specs.List.Sorted.{IsStrictlyIncreasing};
-ghost use Rattle.ts_model.specs.Fact.{IsTriple};
-ghost use Rattle.ts_model.specs.Order.{fact_cmp};
+ghost use Rattle.ts_model.specs.TextTriple.{IsTriple};
+ghost use Rattle.ts_model.specs.Order.{triple_cmp};
 ghost use Rattle.ts_model.specs.Sets.{from_list, members};
 ghost use Rattle.ts_replace.specs.Names.{IsLayerNumber, label_file_name, layer_name, rollup_name};
 ghost use Rattle.ts_replace.specs.Scanned.{AreThoseOf, Rise};
@@ -127,7 +127,7 @@ fn read_layer<W: Site>(alloc: Global, site: &mut W, number: u32) -> Result<Loade
 fn load_file(alloc: Global, bytes: &[u8], number: u32) -> Result<Loaded, Stop>
     requires { IsLayerNumber number }
     ensures loaded { IfOk result (λ loaded. (loaded.number ≡ number) × IsLoaded loaded) }
-    ensures file { IfOk result (λ loaded. (bytes.now ≡ file_of number (base_record loaded.triples.items)) × All IsTriple (members (from_list {R = fact_cmp} loaded.triples.items))) }
+    ensures file { IfOk result (λ loaded. (bytes.now ≡ file_of number (base_record loaded.triples.items)) × All IsTriple (members (from_list {R = triple_cmp} loaded.triples.items))) }
     ensures err { IfErr result (λ stop. (stop ≡ Stop.Memory) ⊎ ((stop ≡ Stop.Damaged (layer_name number)) × (IsBaseFile number bytes.now → ⊥))) }
 {
     match read_plain(alloc, bytes, number) {

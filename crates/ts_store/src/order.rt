@@ -3,7 +3,7 @@ ghost use Rattle.std.specs.Prelude.{◌≡◌};
 ghost use Rattle.std.specs.List.{list_any};
 ghost use Rattle.std.specs.List.Sorted.{IsPermutation, IsSorted, IsStrictlySortedBy};
 ghost use Rattle.std.specs.Ordering.{eq_by_cmp};
-ghost use Rattle.ts_model.specs.Order.{fact_cmp};
+ghost use Rattle.ts_model.specs.Order.{triple_cmp};
 ghost use Rattle.ts_store.specs.Loaded.{base_cmp, base_key_cmp};
 
 use std::cmp::Ordering;
@@ -20,7 +20,7 @@ pub(crate) fn sort(triples: &mut Vec<Triple>)
 /// Whether the triple is one of these, which rise in birth order. A binary search.
 pub(crate) fn has(triples: &[Triple], triple: &Triple) -> bool
     requires { IsStrictlySortedBy base_cmp triples.now }
-    ensures { result ≡ list_any (eq_by_cmp fact_cmp triple.now) triples.now }
+    ensures { result ≡ list_any (eq_by_cmp triple_cmp triple.now) triples.now }
 {
     match triples.binary_search_by(|other| compare(other, triple)) {
         Ok(_) => true,

@@ -8,7 +8,7 @@ pub returns-clause-once : goal.returns-clause-once
 returns-clause-once c = λ line a b f g one other. text_once (chars line) a b f g one.1 other.1
 
 pub returns-clause-silent : goal.returns-clause-silent
-returns-clause-silent c = λ line sign fact silent spells. silent_is_none (chars line) silent.1 sign fact spells.1
+returns-clause-silent c = λ line sign triple silent spells. silent_is_none (chars line) silent.1 sign triple spells.1
 
 pub returns-clause-term : goal.returns-clause-term
 returns-clause-term c = λ bytes kind a b one other. (term_once kind (chars bytes) a b [] [] one.1 other.1).0

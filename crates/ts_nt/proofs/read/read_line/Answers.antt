@@ -30,5 +30,5 @@ returns-in-Ok-None-clause-err c =
       λ silent.
           let here = subst (λ t. IsNothingOrComment t) (sym (c.after_blanks.ensures ∙ ap (λ bytes. after_blanks (chars bytes)) same)) silent.1 in
           true≢false (sym (c.is_nothing_or_comment.ensures.1 here) ∙ c.if-is_nothing_or_comment.false),
-      λ sign fact spells. none sign fact (subst (λ bytes. IsTripleText (chars bytes) sign fact) (sym same) spells.1),
+      λ sign triple spells. none sign triple (subst (λ bytes. IsTripleText (chars bytes) sign triple) (sym same) spells.1),
     )

@@ -5,11 +5,11 @@ use Rattle.ts_plain.proofs.LineLaws.{line_before, line_is_first}
 use Rattle.ts_plain.proofs.changes.read_change.Goals as goal
 
 pub returns-in_default-clause-err : goal.returns-in_default-clause-err
-returns-in_default-clause-err c = λ e fact rest triple is. c.in_default.ensures.none (line_text fact) rest (is ∙ line_before fact rest)
+returns-in_default-clause-err c = λ e triple rest is_triple is. c.in_default.ensures.none (line_text triple) rest (is ∙ line_before triple rest)
 
 pub returns-in_err-triple-clause-err : goal.returns-in_err-triple-clause-err
 returns-in_err-triple-clause-err c =
     let p = err_from_is_err_and c.from_residual.result c.from_residual.ensures.1 in
-    rw (p.1, p.2) (λ e fact rest triple is.
-    c.in_err-triple.ensures.err e fact triple
-    (line_is_first fact c.in-Some.line.text.now rest c.in-Some.line.rest.now triple c.in-Some.ensures.some.0 (sym c.in-Some.ensures.some.1 ∙ is)))
+    rw (p.1, p.2) (λ e triple rest is_triple is.
+    c.in_err-triple.ensures.err e triple is_triple
+    (line_is_first triple c.in-Some.line.text.now rest c.in-Some.line.rest.now is_triple c.in-Some.ensures.some.0 (sym c.in-Some.ensures.some.1 ∙ is)))

@@ -2,8 +2,8 @@ use Rattle.std.proofs.Common.{◌≡◌, [], ◌∷◌, ◌++◌, sym, ap, ◌�
 use Rattle.std.specs.List.Sorted.{IsStrictlySortedBy}
 use Rattle.std.proofs.lemmas.List.Elements.{All-nil, All-push, All-same}
 use Rattle.std.proofs.lemmas.Result.{err_from_is_err_and}
-use Rattle.ts_model.specs.Fact.{IsTriple}
-use Rattle.ts_model.specs.Order.{fact_cmp}
+use Rattle.ts_model.specs.TextTriple.{IsTriple}
+use Rattle.ts_model.specs.Order.{triple_cmp}
 use Rattle.ts_plain.specs.PlainFile.{change_lines}
 use Rattle.ts_plain.proofs.SectionLaws.{lines_more, no_line, no_rise}
 use Rattle.ts_plain.proofs.changes.read_changes.Goals as goal
@@ -13,9 +13,9 @@ unfolding IsStrictlySortedBy
 loop-behind-init c =
     let none = c.new-triples.ensures.items in
     record {
-      rise = subst (IsStrictlySortedBy fact_cmp) (sym none) tt;
+      rise = subst (IsStrictlySortedBy triple_cmp) (sym none) tt;
       triples = All-same IsTriple c.new-triples.result.items [] none (All-nil IsTriple);
-      lines = ap (λ facts. change_lines c.args.sign facts ++ c.args.bytes.now) (sym none);
+      lines = ap (λ triples. change_lines c.args.sign triples ++ c.args.bytes.now) (sym none);
     }
 
 pub returns-in_err-change-clause-err : goal.returns-in_err-change-clause-err
@@ -31,8 +31,8 @@ returns-then-not-rises-clause-err c = λ e.
     let read = c.in_ok-change.ensures.ok in
     no_rise c.args.sign c.args.bytes.now c.loop-behind.triples.items c.in_ok-change.change.triple c.loop-behind.rest.now c.in-Some.behind.now c.in_ok-change.change.rest.now
     inv.triples inv.lines c.in-Some.ensures.some read.0 read.1 (λ rise.
-    let shown : IsStrictlySortedBy fact_cmp (c.as_slice.result.now ++ c.in_ok-change.change.triple ∷ []) =
-    subst (λ facts. IsStrictlySortedBy fact_cmp (facts ++ c.in_ok-change.change.triple ∷ [])) (sym c.as_slice.ensures.value) rise in
+    let shown : IsStrictlySortedBy triple_cmp (c.as_slice.result.now ++ c.in_ok-change.change.triple ∷ []) =
+    subst (λ triples. IsStrictlySortedBy triple_cmp (triples ++ c.in_ok-change.change.triple ∷ [])) (sym c.as_slice.ensures.value) rise in
     true≢false (sym (c.rises.ensures.1 shown) ∙ c.if-not-rises.true))
 
 pub loop-behind-preserved : goal.loop-behind-preserved
@@ -43,9 +43,9 @@ loop-behind-preserved c =
     let t = c.in_ok-change.change.triple in
     let rise = c.rises.ensures.0 c.if-not-rises.false in
     record {
-      rise = subst (IsStrictlySortedBy fact_cmp) (sym pushed) (subst (λ facts. IsStrictlySortedBy fact_cmp (facts ++ t ∷ [])) c.as_slice.ensures.value rise);
+      rise = subst (IsStrictlySortedBy triple_cmp) (sym pushed) (subst (λ triples. IsStrictlySortedBy triple_cmp (triples ++ t ∷ [])) c.as_slice.ensures.value rise);
       triples = All-same IsTriple c.push.new.self.items (c.loop-behind.triples.items ++ t ∷ []) pushed (All-push IsTriple c.loop-behind.triples.items t inv.triples read.0);
       lines =
-          subst (λ facts. c.args.bytes.now ≡ change_lines c.args.sign facts ++ c.in_ok-change.change.rest.now) (sym pushed)
+          subst (λ triples. c.args.bytes.now ≡ change_lines c.args.sign triples ++ c.in_ok-change.change.rest.now) (sym pushed)
           (lines_more c.args.sign c.args.bytes.now c.loop-behind.triples.items t c.loop-behind.rest.now c.in-Some.behind.now c.in_ok-change.change.rest.now inv.lines c.in-Some.ensures.some read.1);
     }

@@ -1,7 +1,7 @@
 use Rattle.std.proofs.Common.{◌≡◌, ◌∙◌, ℕ, List, map, unwrap_or, All, IfOk, ap, subst}
 use denote.Ref.{Bor}
-use Rattle.ts_model.specs.Fact.{Fact}
-use Rattle.ts_model.specs.Spelled.{Spelled}
+use Rattle.ts_model.specs.TextTriple.{TextTriple}
+use Rattle.ts_model.specs.TextTerm.{TextTerm}
 use Rattle.ts_model.specs.History.{content_at}
 use Rattle.ts_model.specs.Sets.{members}
 use Rattle.ts_plain.specs.Chain.{content_over, birth_over}
@@ -20,18 +20,18 @@ returns c =
     let layers = seen c.in_ok-chain.chain.items in
     let chain = c.in_ok-chain.ensures in
     let keyed = c.in_ok-triples.triples.items in
-    let births_are : (term : Spelled) → unwrap_or (birth_in c.in_ok-births.births term) 0 ≡ birth history number term = λ term.
+    let births_are : (term : TextTerm) → unwrap_or (birth_in c.in_ok-births.births term) 0 ≡ birth history number term = λ term.
     ap (λ o. unwrap_or o 0) (
     c.in_ok-births.ensures term
     ∙ ap (λ items. birth_over (seen items) term) c.as_slice.ensures.value
     ∙ birth_over-chain history number layers chain term
     ) in
-    let facts : map triple_of keyed ≡ members (content_at history number) =
+    let these : map triple_of keyed ≡ members (content_at history number) =
     c.in_ok-triples.ensures.triples
-    ∙ ap (map (λ (triple : Bor Fact). triple.now)) c.as_slice-3.ensures.value
+    ∙ ap (map (λ (triple : Bor TextTriple). triple.now)) c.as_slice-3.ensures.value
     ∙ c.in_ok-content.ensures
     ∙ ap (λ items. members (content_over (seen items))) c.as_slice-2.ensures.value
     ∙ ap members (content_over-chain history number layers chain) in
-    let keys : All (IsKeyed (birth history number)) keyed = subst (λ (f : Spelled → ℕ). All (IsKeyed f) keyed) (λ i term. births_are term i) c.in_ok-triples.ensures.keys in
-    let listed = listing_is history number keyed c.sort.new.triples.items facts keys c.sort.ensures.moved c.sort.ensures.sorted in
-    subst (λ (facts : List Fact). IfOk c.copies.result (λ triples. triples.items ≡ facts)) (ap (map triple_of) c.as_slice-4.ensures.value ∙ listed) c.copies.ensures
+    let keys : All (IsKeyed (birth history number)) keyed = subst (λ (f : TextTerm → ℕ). All (IsKeyed f) keyed) (λ i term. births_are term i) c.in_ok-triples.ensures.keys in
+    let listed = listing_is history number keyed c.sort.new.triples.items these keys c.sort.ensures.moved c.sort.ensures.sorted in
+    subst (λ (these : List TextTriple). IfOk c.copies.result (λ triples. triples.items ≡ these)) (ap (map triple_of) c.as_slice-4.ensures.value ∙ listed) c.copies.ensures

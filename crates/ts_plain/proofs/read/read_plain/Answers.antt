@@ -39,7 +39,7 @@ returns-then-not-is_empty-clause-err c = λ e parent additions removals layer is
       | then-not-is_empty-via-else-not-is_empty+then-not-fit w ↦
           let apart = needs_apart c.args.number c.args.bytes.now parent additions removals layer is (omega arith) head.parent head.rest.now named.1 named.2
           added.triples.items added.rest.now c.in_ok-additions.ensures.ok removed.triples.items removed.rest.now c.in_ok-removals.ensures.ok in
-          let first : AreApart c.as_slice-triples.result.now removed.triples.items = subst (λ facts. AreApart facts removed.triples.items) (sym c.as_slice-triples.ensures.value) apart.0 in
+          let first : AreApart c.as_slice-triples.result.now removed.triples.items = subst (λ these. AreApart these removed.triples.items) (sym c.as_slice-triples.ensures.value) apart.0 in
           let both : AreApart c.as_slice-triples.result.now w.as_slice.result.now = subst (AreApart c.as_slice-triples.result.now) (sym w.as_slice.ensures.value) first in
           true≢false (sym (w.fit.ensures.1 (both, λ none. w.as_slice.ensures.value ∙ apart.1 none)) ∙ w.if-not-fit.true)
     ]
@@ -52,7 +52,7 @@ returns-clause-ok c =
     let removed = c.in_ok-removals.removals in
     let over : removed.rest.now ≡ [] = nil_from_length removed.rest.now (length_zero _ (sym c.is_empty.ensures ∙ c.if-not-is_empty.false)) in
     let apart = c.fit.ensures.0 c.if-not-fit.false in
-    let first : AreApart added.triples.items c.as_slice.result.now = subst (λ facts. AreApart facts c.as_slice.result.now) c.as_slice-triples.ensures.value apart.0 in
+    let first : AreApart added.triples.items c.as_slice.result.now = subst (λ these. AreApart these c.as_slice.result.now) c.as_slice-triples.ensures.value apart.0 in
     let both : AreApart added.triples.items removed.triples.items = subst (AreApart added.triples.items) c.as_slice.ensures.value first in
     let layer = is_layer c.args.number c.args.bytes.now head.parent head.rest.now added.triples.items removed.triples.items added.rest.now removed.rest.now
     named.0 named.1 named.2 c.in_ok-additions.ensures.ok c.in_ok-removals.ensures.ok over both (λ none. sym c.as_slice.ensures.value ∙ apart.1 none) in

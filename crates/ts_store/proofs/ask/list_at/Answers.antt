@@ -1,5 +1,5 @@
 use Rattle.std.proofs.Common.{List, filter, sym, ap, subst, ◌∙◌}
-use Rattle.ts_model.specs.Fact.{Fact}
+use Rattle.ts_model.specs.TextTriple.{TextTriple}
 use Rattle.ts_model.specs.Fits.{fits}
 use Rattle.ts_site.specs.Telling.{Tells}
 use Rattle.ts_store.specs.Step.{Stepped, does, listing_text}
@@ -14,7 +14,7 @@ returns-in-Some-clause-told g c =
     let some = c.in-Some.ensures.some in
     let pattern = c.args.pattern.now in
     let state = state_of c.args.layers.now c.args.last in
-    let facts = ap (λ (l : List Fact). does state (listing_text (filter (fits pattern) l))) c.as_slice.ensures.value in
+    let triples = ap (λ (l : List TextTriple). does state (listing_text (filter (fits pattern) l))) c.as_slice.ensures.value in
     let is = asked_listing c.args.layers.now c.args.last c.args.named found some.0 some.1 some.2 pattern in
     subst (λ (s : Stepped). Tells (g.W.Disk.tells_output c.args.site.now) (g.W.Disk.tells_output c.list.new.site) (LeavesTold c.list.result s.told (g.W.Disk.told c.args.site.now) (g.W.Disk.told c.list.new.site)))
-    (facts ∙ sym is) c.list.ensures.told
+    (triples ∙ sym is) c.list.ensures.told

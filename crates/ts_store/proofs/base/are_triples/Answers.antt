@@ -1,7 +1,7 @@
 use Rattle.std.proofs.Common.{subst, arith}
 use Rattle.std.proofs.lemmas.List.Elements.{All-more}
 use Rattle.std.proofs.lemmas.List.{take_all}
-use Rattle.ts_model.specs.Fact.{IsTriple}
+use Rattle.ts_model.specs.TextTriple.{IsTriple}
 use Rattle.std.specs.Prelude.{All}
 use Rattle.ts_store.proofs.base.are_triples.Goals as goal
 

@@ -1,5 +1,5 @@
 use Rattle.std.proofs.Common.{take, All}
-use Rattle.ts_model.specs.Fact.{IsTriple}
+use Rattle.ts_model.specs.TextTriple.{IsTriple}
 use Rattle.ts_store.proofs.base.are_triples.Given as goal
 
 abbrev pub invariant-loop-triple : goal.invariant-loop-triple

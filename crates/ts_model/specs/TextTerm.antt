@@ -3,10 +3,10 @@ use Rattle.std.specs.Prelude.{ℕ, ◌≤◌, List, length}
 use Rattle.ts_model.specs.declared.term.TermKind.{TermKind}
 use Rattle.ts_model.specs.Canonical.{IsCanonical}
 
-pub record Spelled : Type 0 where
+pub record TextTerm : Type 0 where
   pub kind : TermKind
   pub spelling : List ℕ
 
 -- the spelling is canonical and within the limit of 1,048,576 bytes
-abbrev pub IsTerm : Spelled → Type 0
+abbrev pub IsTerm : TextTerm → Type 0
 IsTerm term = IsCanonical term.kind term.spelling × (length term.spelling ≤ 1048576)
