@@ -1,6 +1,6 @@
 -- What a call of a site in memory leaves, also where it fails by plan.
 use Rattle.std.proofs.Common.{◌≡◌, ◌≤◌, ◌+◌, ◌-◌, ◌/◌, ◌^◌, min, Bool, true, false, ℕ, List, [], ◌++◌, length, take, take_all, Option, None, Some, Result, Ok, Err, MatchResult, refl, sym, ap, subst, ◌∙◌, inl, inr, arith, append-nil}
-use Rattle.std.specs.Prelude.{IsOkAnd, IfOk, IfErr, MatchBool, MatchOption}
+use Rattle.std.specs.Prelude.{is_err, IsOkAnd, IfOk, IfErr, MatchBool, MatchOption}
 use Rattle.std.specs.FinMap.{get, insert}
 use Rattle.ts_site.specs.declared.disk.Failed.{Failed}
 use Rattle.ts_site.specs.declared.disk.ListFail.{ListFail}
@@ -8,7 +8,7 @@ use Rattle.ts_site.specs.declared.disk.ListFail.TheVariants as list_fail
 use Rattle.ts_site.specs.declared.plan.FaultKind.{FaultKind}
 use Rattle.ts_site.specs.declared.plan.FaultKind.TheVariants.{Nothing, Happened, Half}
 use Rattle.ts_site.specs.Folder.{Folder, IsAnyAt, IsEither, Writes, Renames, appended, appended_file}
-use Rattle.ts_site.specs.Faults.{CountsFault, CountsListFault, CountsListFail}
+use Rattle.ts_site.specs.Faults.{CountsFault, is_err_and, is_list_fault}
 use Rattle.ts_site.specs.Recorder.{MemoryState, has_room, one_more, MakesDiskCall, MakesSayCall, spoiled, spoiled_say}
 use Rattle.ts_site.specs.MemorySite.{DoesDiskCall, DoesSayCall, left_by, first_half, state_after_reading}
 use Rattle.ts_site.specs.Output.{Says}
@@ -21,10 +21,10 @@ module _ {P Q R : Type 0} (with_room : P → R) (without_room : Q → R) where
   either true h = with_room h
   either false h = without_room h
 
-fault : {T : Type 0} (r : Result T Failed) (old new : ℕ) → r ≡ Err (record {}) → new ≡ min (old + 1) (2 ^ 64 - 1) → old ≤ 2 ^ 64 - 1 → CountsFault r old new
+fault : {T : Type 0} (r : Result T Failed) (old new : ℕ) → r ≡ Err (record {}) → new ≡ min (old + 1) (2 ^ 64 - 1) → old ≤ 2 ^ 64 - 1 → CountsFault (is_err r) old new
 fault r old new failed is fits = rw failed (omega arith, omega arith)
 
-no_fault : {T : Type 0} (r : Result T Failed) (x : T) (old new : ℕ) → r ≡ Ok x → new ≡ old → CountsFault r old new
+no_fault : {T : Type 0} (r : Result T Failed) (x : T) (old new : ℕ) → r ≡ Ok x → new ≡ old → CountsFault (is_err r) old new
 no_fault r x old new ok is = rw ok is
 
 done : {E : Type 0} (r : Result (Unit {0}) E) (P : Type 0) (new changed : Folder) → r ≡ Ok tt → new ≡ changed → MatchResult r (λ _. new ≡ changed) (λ _. P)
@@ -34,7 +34,7 @@ failed_so : {E : Type 0} (r : Result (Unit {0}) E) (x : E) (P Q : Type 0) → r 
 failed_so r x P Q err q = rw err q
 
 pub disk_counts : (plan : Option FaultKind) (r : Result (Unit {0}) Failed) (bytes : ℕ) (all half : Folder) (old new : MemoryState) → old.disk_faults ≤ 2 ^ 64 - 1
-    → DoesDiskCall plan r bytes all half old new → CountsFault r old.disk_faults new.disk_faults
+    → DoesDiskCall plan r bytes all half old new → CountsFault (is_err r) old.disk_faults new.disk_faults
 disk_counts None r bytes all half old new fits h = either
     (λ h. no_fault r tt old.disk_faults new.disk_faults h.0 (ap (λ s. s.disk_faults) h.1))
     (λ h. fault r old.disk_faults new.disk_faults h.0 (ap (λ s. s.disk_faults) h.1) fits) (has_room old bytes) h
@@ -102,7 +102,7 @@ disk_renames (Some how) r bytes all old new h =
     failed_so r _ _ _ h.0 (left_folder (IsEither all old.folder) how bytes r all old.folder old new (inl refl) (inr refl) (inr refl) h)
 
 pub say_counts : (plan : Option FaultKind) (r : Result (Unit {0}) Failed) (piece : List ℕ) (old new : MemoryState) → old.say_faults ≤ 2 ^ 64 - 1
-    → DoesSayCall plan r piece old new → CountsFault r old.say_faults new.say_faults
+    → DoesSayCall plan r piece old new → CountsFault (is_err r) old.say_faults new.say_faults
 say_counts None r piece old new fits h = either
     (λ h. no_fault r tt old.say_faults new.say_faults h.0 (ap (λ s. s.say_faults) h.1))
     (λ h. fault r old.say_faults new.say_faults h.0 (ap (λ s. s.say_faults) h.1) fits) (has_room old (length piece)) h
@@ -147,13 +147,13 @@ pub reading_leaves : (plan : Option FaultKind) (old new : MemoryState) → new �
 reading_leaves None old new is = (ap (λ s. s.folder) is, ap (λ s. s.told) is, ap (λ s. s.say_faults) is)
 reading_leaves (Some how) old new is = (ap (λ s. s.folder) is, ap (λ s. s.told) is, ap (λ s. s.say_faults) is)
 
-counts_when_ok : {T : Type 0} (P : T → Type 0) (r : Result T Failed) (old new : ℕ) → IsOkAnd r P → new ≡ old → CountsFault r old new
+counts_when_ok : {T : Type 0} (P : T → Type 0) (r : Result T Failed) (old new : ℕ) → IsOkAnd r P → new ≡ old → CountsFault (is_err r) old new
 counts_when_ok P (Ok x) old new h is = is
 counts_when_ok P (Err e) old new h is = absurd h
 
 -- it answers Ok, and a fault exactly where one is planned
 pub reading_counts : {T : Type 0} (P : T → Type 0) (Q : Type 0) (plan : Option FaultKind) (r : Result T Failed) (old new : MemoryState) → old.disk_faults ≤ 2 ^ 64 - 1
-    → MatchOption plan (IsOkAnd r P) (λ _. (r ≡ Err (record {})) × Q) → new ≡ state_after_reading plan old → CountsFault r old.disk_faults new.disk_faults
+    → MatchOption plan (IsOkAnd r P) (λ _. (r ≡ Err (record {})) × Q) → new ≡ state_after_reading plan old → CountsFault (is_err r) old.disk_faults new.disk_faults
 reading_counts P Q None r old new fits h is = counts_when_ok P r old.disk_faults new.disk_faults h (ap (λ s. s.disk_faults) is)
 reading_counts P Q (Some how) r old new fits h is = fault r old.disk_faults new.disk_faults h.0 (ap (λ s. s.disk_faults) is) fits
 
@@ -168,7 +168,7 @@ reading_gives P Q (Some how) r h = rw h.0 tt
 
 -- the same of a call that answers one value
 pub size_counts : {T : Type 0} (x : T) (plan : Option FaultKind) (r : Result T Failed) (old new : MemoryState) → old.disk_faults ≤ 2 ^ 64 - 1
-    → MatchOption plan (r ≡ Ok x) (λ _. r ≡ Err (record {})) → new ≡ state_after_reading plan old → CountsFault r old.disk_faults new.disk_faults
+    → MatchOption plan (r ≡ Ok x) (λ _. r ≡ Err (record {})) → new ≡ state_after_reading plan old → CountsFault (is_err r) old.disk_faults new.disk_faults
 size_counts x None r old new fits h is = no_fault r x old.disk_faults new.disk_faults h (ap (λ s. s.disk_faults) is)
 size_counts x (Some how) r old new fits h is = fault r old.disk_faults new.disk_faults h (ap (λ s. s.disk_faults) is) fits
 
@@ -176,16 +176,16 @@ pub size_gives : {T : Type 0} (x : T) (plan : Option FaultKind) (r : Result T Fa
 size_gives x None r h = rw h refl
 size_gives x (Some how) r h = rw h tt
 
-memory_counts : {T : Type 0} (r : Result T ListFail) (old new : ℕ) → IfErr r (λ e. e ≡ list_fail.Memory) → new ≡ old → CountsListFault r old new
+memory_counts : {T : Type 0} (r : Result T ListFail) (old new : ℕ) → IfErr r (λ e. e ≡ list_fail.Memory) → new ≡ old → CountsFault (is_err_and is_list_fault r) old new
 memory_counts (Ok x) old new h is = is
-memory_counts (Err e) old new h is = subst (λ fail. CountsListFail fail old new) (sym h) is
+memory_counts (Err e) old new h is = subst (λ fail. CountsFault (is_list_fault fail) old new) (sym h) is
 
-list_fault : {T : Type 0} (r : Result T ListFail) (old new : ℕ) → r ≡ Err list_fail.Failed → new ≡ min (old + 1) (2 ^ 64 - 1) → old ≤ 2 ^ 64 - 1 → CountsListFault r old new
+list_fault : {T : Type 0} (r : Result T ListFail) (old new : ℕ) → r ≡ Err list_fail.Failed → new ≡ min (old + 1) (2 ^ 64 - 1) → old ≤ 2 ^ 64 - 1 → CountsFault (is_err_and is_list_fault r) old new
 list_fault r old new failed is fits = rw failed (omega arith, omega arith)
 
 -- a listing fails by plan, or for want of memory
 pub list_counts : {T : Type 0} (Q : Type 0) (plan : Option FaultKind) (r : Result T ListFail) (old new : MemoryState) → old.disk_faults ≤ 2 ^ 64 - 1
-    → MatchOption plan (IfErr r (λ e. e ≡ list_fail.Memory)) (λ _. (r ≡ Err list_fail.Failed) × Q) → new ≡ state_after_reading plan old → CountsListFault r old.disk_faults new.disk_faults
+    → MatchOption plan (IfErr r (λ e. e ≡ list_fail.Memory)) (λ _. (r ≡ Err list_fail.Failed) × Q) → new ≡ state_after_reading plan old → CountsFault (is_err_and is_list_fault r) old.disk_faults new.disk_faults
 list_counts Q None r old new fits h is = memory_counts r old.disk_faults new.disk_faults h (ap (λ s. s.disk_faults) is)
 list_counts Q (Some how) r old new fits h is = list_fault r old.disk_faults new.disk_faults h.0 (ap (λ s. s.disk_faults) is) fits
 

@@ -1,6 +1,5 @@
 -- Counts of faults. Each is a number of 64 bits, which stands once it has come to its last value.
-use Rattle.std.specs.Prelude.{◌≡◌, ℕ, ◌+◌, ◌-◌, ◌^◌, ◌<◌, ◌≤◌, min, Result, MatchResult}
-use Rattle.ts_site.specs.declared.disk.Failed.{Failed}
+use Rattle.std.specs.Prelude.{◌≡◌, ℕ, ◌+◌, ◌-◌, ◌^◌, ◌<◌, ◌≤◌, min, Bool, true, false, MatchBool, Result, Ok, Err}
 use Rattle.ts_site.specs.declared.disk.ListFail.{ListFail}
 use Rattle.ts_site.specs.declared.disk.ListFail.TheVariants as list_fail
 
@@ -12,15 +11,16 @@ Rose old new = (old ≤ new) × (min (old + 1) (2 ^ 64 - 1) ≤ new)
 abbrev pub IsCalm : ℕ → ℕ → Type 0
 IsCalm old new = (new ≡ old) × (new < 2 ^ 64 - 1)
 
--- a fault is answered exactly where the count rose
-abbrev pub CountsFault : {T : Type 0} → Result T Failed → ℕ → ℕ → Type 0
-CountsFault result old new = MatchResult result (λ _. new ≡ old) (λ _. Rose old new)
+-- a fault is answered exactly where the count rose; `is_fault` is whether it was answered
+abbrev pub CountsFault : Bool → ℕ → ℕ → Type 0
+CountsFault is_fault old new = MatchBool is_fault (Rose old new) (new ≡ old)
 
 -- of the two failures of a listing, want of memory is no fault
-abbrev pub CountsListFail : ListFail → ℕ → ℕ → Type 0
-CountsListFail list_fail.Failed old new = Rose old new
-CountsListFail list_fail.Memory old new = new ≡ old
+abbrev pub is_list_fault : ListFail → Bool
+is_list_fault list_fail.Failed = true
+is_list_fault list_fail.Memory = false
 
--- the same of a listing
-abbrev pub CountsListFault : {T : Type 0} → Result T ListFail → ℕ → ℕ → Type 0
-CountsListFault result old new = MatchResult result (λ _. new ≡ old) (λ e. CountsListFail e old new)
+-- whether the answer is an error that passes the test
+abbrev pub is_err_and : {T E : Type 0} → (E → Bool) → Result T E → Bool
+is_err_and test (Ok value) = false
+is_err_and test (Err error) = test error

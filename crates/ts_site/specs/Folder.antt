@@ -21,9 +21,9 @@ pub record AreNamesOf (folder : Folder) (names : List (List ℕ)) : Type 0 where
   pub once : EachOnce names
   pub those : (name : List ℕ) → Contains names name ↔ IsTrue (contains_key folder name)
 
--- the list goes on after the old one
-abbrev pub GoesOn : {A : Type 0} → List A → List A → Type 0
-GoesOn {A} old new = (more : List A) × (new ≡ old ++ more)
+-- what was in the list stays at its front
+abbrev pub Extends : {A : Type 0} → List A → List A → Type 0
+Extends {A} old new = (more : List A) × (new ≡ old ++ more)
 
 -- the list goes on with the names of the folder
 abbrev pub AppendsNames : Folder → List (List ℕ) → List (List ℕ) → Type 0

@@ -6,6 +6,7 @@ pub mod MemorySite
 pub mod MemorySource
 pub mod Origin
 pub mod Output
+pub mod Outside
 pub mod Recorder
 pub mod Source
 pub mod Telling

@@ -1,5 +1,5 @@
 -- What a site in memory tells, and the faults that are planned for it.
-use Rattle.std.specs.Prelude.{◌≡◌, ℕ, ◌-◌, ◌==◌, ◌&&◌, ◌/◌, Bool, List, [], ◌∷◌, ◌++◌, take, length, Option, None, Some, Result, Err, MatchBool, if◌then◌else◌}
+use Rattle.std.specs.Prelude.{◌≡◌, ℕ, ◌-◌, ◌==◌, ◌&&◌, ◌/◌, Bool, true, List, [], ◌++◌, take, length, reverse, find, Option, None, Some, Result, Err, MatchBool, if◌then◌else◌}
 use Rattle.ts_site.specs.declared.disk.Failed.{Failed}
 use Rattle.ts_site.specs.declared.call.Call.{Call}
 use Rattle.ts_site.specs.declared.memory_site.MemorySite.{MemorySite}
@@ -8,12 +8,25 @@ use Rattle.ts_site.specs.declared.plan.CallKind.TheVariants as kind
 use Rattle.ts_site.specs.declared.plan.FaultKind.{FaultKind}
 use Rattle.ts_site.specs.declared.plan.FaultKind.TheVariants.{Nothing, Happened, Half}
 use Rattle.ts_site.specs.declared.plan.Plan.{Plan}
+use Rattle.std.specs.Option.{option_map}
 use Rattle.ts_site.specs.Folder.{Folder}
+use Rattle.ts_site.specs.Outside.{Outside}
 use Rattle.ts_site.specs.Recorder.{MemoryState, memory_state as recorded, memory_calls as calls_of, one_more, has_room, MakesDiskCall, MakesSayCall}
 
 -- the folder, what was said, the room and the counts
 abbrev pub memory_state : MemorySite → MemoryState
 memory_state site = recorded site.recorder
+
+-- a site in memory tells all
+abbrev pub outside_of : MemorySite → Outside
+outside_of site = record {
+  tells_folder = true;
+  folder = (memory_state site).folder;
+  disk_faults = (memory_state site).disk_faults;
+  tells_output = true;
+  told = (memory_state site).told;
+  say_faults = (memory_state site).say_faults;
+}
 
 -- the calls that happened, the first of them first
 abbrev pub memory_calls : MemorySite → List Call
@@ -47,13 +60,9 @@ nearer called plan = if speaks_of called plan then record plan { left = plan.lef
 abbrev pub is_due : CallKind → Plan → Bool
 is_due called plan = speaks_of called plan && (plan.left == 1)
 
--- the fault that is planned for a call: of two plans the later holds
-abbrev pub planned_behind : Option FaultKind → CallKind → List Plan → Option FaultKind
-planned_behind found called [] = found
-planned_behind found called (plan ∷ plans) = planned_behind (if is_due called plan then Some plan.how else found) called plans
-
+-- the fault that is planned for a call: that of the last plan that is due
 abbrev pub planned : CallKind → List Plan → Option FaultKind
-planned = planned_behind None
+planned called plans = option_map (λ plan. plan.how) (find (is_due called) (reverse plans))
 
 -- what a call that failed by plan leaves: of what it would change, nothing, all, or what half of its bytes change
 abbrev pub left_by : {A : Type 0} → FaultKind → A → A → A → A

@@ -1,7 +1,7 @@
 // A site in memory.
 ghost use Rattle.std.specs.Prelude.{◌≡◌, ◌+◌, ◌/◌, ◌≤◌, ◌++◌, ◌∷◌, [], ℕ, true, false, Ok, Err, IsTrue, IfOk, IsOkAnd, OnOk, OnErr, IfErr, MatchOption, option_copied, option_map, length, map};
 ghost use Rattle.std.specs.FinMap.{get, insert, remove, contains_key};
-ghost use Rattle.ts_site.specs.Folder.{no_files, appended, moved, length_at, Reads, ReadsFile, AppendsNames, GoesOn};
+ghost use Rattle.ts_site.specs.Folder.{no_files, appended, moved, length_at, Reads, ReadsFile, AppendsNames, Extends};
 ghost use Rattle.ts_site.specs.Call.{happens, call_lies_in};
 ghost use Rattle.ts_site.specs.MemorySite.{left_by};
 
@@ -161,24 +161,13 @@ fn kept_by(how: FaultKind, len: usize) -> usize
 }
 
 impl Disk for MemorySite {
-    ghost use Rattle.ts_site.specs.MemorySite.{memory_state, plans_of, planned, nearer, DoesDiskCall, first_half, state_after_reading};
-    ghost use Rattle.std.specs.Prelude.{true};
+    ghost use Rattle.ts_site.specs.MemorySite.{memory_state, outside_of, plans_of, planned, nearer, DoesDiskCall, first_half, state_after_reading};
     ghost use Rattle.ts_site.specs.declared.disk.ListFail.TheVariants as list_fail;
 
-    ghost tells_folder = { λ site. true };
-
-    ghost now = { λ site. (memory_state site).folder };
-
-    ghost disk_faults = { λ site. (memory_state site).disk_faults };
-
-    ghost tells_output = { λ site. true };
-
-    ghost told = { λ site. (memory_state site).told };
-
-    ghost say_faults = { λ site. (memory_state site).say_faults };
+    ghost outside = { outside_of };
 
     fn list(&mut self, alloc: Global, into: &mut Vec<FileName>) -> Result<(), ListFail>
-        ensures front { GoesOn into.old.items into.new.items }
+        ensures front { Extends into.old.items into.new.items }
         ensures names { OnOk result (AppendsNames (memory_state self.old).folder into.old.items into.new.items) }
         ensures fails { MatchOption (planned CallKind.List (plans_of self.old)) (IfErr result (λ e. e ≡ list_fail.Memory))
             (λ _. (result ≡ Err list_fail.Failed) × (into.new.items ≡ into.old.items)) }

@@ -1,6 +1,6 @@
 // Faults that are planned for a site in memory.
 ghost use Rattle.std.specs.Prelude.{◌≡◌, map};
-ghost use Rattle.ts_site.specs.MemorySite.{kind_place, is_due, nearer, planned, planned_behind};
+ghost use Rattle.ts_site.specs.MemorySite.{kind_place, is_due, nearer, planned};
 
 /// The methods of a disk, and `say`.
 #[derive(Clone, Copy, Debug)]

@@ -1,7 +1,7 @@
 // A disk with an output.
-ghost use Rattle.ts_site.specs.Faults.{CountsFault};
-ghost use Rattle.ts_site.specs.Output.{IsSameDisk, Says};
-ghost use Rattle.ts_site.specs.Telling.{Tells};
+ghost use Rattle.std.specs.Prelude.{IsTrue, is_err};
+ghost use Rattle.ts_site.specs.Output.{Says};
+ghost use Rattle.ts_site.specs.Outside.{OnlySays};
 
 use crate::{Disk, Failed};
 
@@ -9,8 +9,6 @@ use crate::{Disk, Failed};
 pub trait Site: Disk {
     /// Says a piece. After a failure a front of it was said.
     fn say(&mut self, piece: &[u8]) -> Result<(), Failed>
-        ensures output { Tells (Self.tells_output self.old) (Self.tells_output self.new)
-            (Says result piece.now (Self.told self.old) (Self.told self.new)) }
-        ensures counts { CountsFault result (Self.say_faults self.old) (Self.say_faults self.new) }
-        ensures disk { IsSameDisk Self.tells_folder Self.now Self.disk_faults self.old self.new };
+        ensures told { IsTrue (Self.outside self.old).tells_output → Says result piece.now (Self.outside self.old).told (Self.outside self.new).told }
+        ensures says { OnlySays (is_err result) (Self.outside self.old) (Self.outside self.new) };
 }

@@ -1,5 +1,5 @@
 // Where the bytes of the input come from.
-ghost use Rattle.std.specs.Prelude.{◌<◌, ◌≤◌, Bool, ℕ, List, IfOk, length};
+ghost use Rattle.std.specs.Prelude.{◌<◌, ◌≤◌, Bool, ℕ, List, IfOk, is_err, length};
 ghost use Rattle.ts_site.specs.Faults.{CountsFault};
 ghost use Rattle.ts_site.specs.Source.{TakesOrKeeps};
 ghost use Rattle.ts_site.specs.Telling.{Tells};
@@ -24,5 +24,5 @@ pub trait Source {
         ensures within { IfOk result (λ count. count ≤ length into.old) }
         ensures taken { Tells (tells self.old) (tells self.new)
             (TakesOrKeeps result (left self.old) (left self.new) into.new) }
-        ensures counts { CountsFault result (faults self.old) (faults self.new) };
+        ensures counts { CountsFault (is_err result) (faults self.old) (faults self.new) };
 }

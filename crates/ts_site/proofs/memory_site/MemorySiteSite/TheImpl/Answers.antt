@@ -8,7 +8,10 @@ pub say-tells : goal.say-tells
 say-tells c =
     let kept = say_leaves_disk (planned kind.Say (plans_of c.args.self.now)) c.result c.args.piece.now (memory_state c.args.self.now) (memory_state c.new.self.now) c.ensures.made in
     record {
-      output = (refl, λ _. say_says (planned kind.Say (plans_of c.args.self.now)) c.result c.args.piece.now (memory_state c.args.self.now) (memory_state c.new.self.now) c.ensures.made);
-      counts = say_counts (planned kind.Say (plans_of c.args.self.now)) c.result c.args.piece.now (memory_state c.args.self.now) (memory_state c.new.self.now) c.args.self.now.recorder.say_count c.ensures.made;
-      disk = record { same_telling = refl; same_now = kept.0; same_faults = kept.1 };
+      told = λ _. say_says (planned kind.Say (plans_of c.args.self.now)) c.result c.args.piece.now (memory_state c.args.self.now) (memory_state c.new.self.now) c.ensures.made;
+      says = record {
+        telling = refl;
+        counts = say_counts (planned kind.Say (plans_of c.args.self.now)) c.result c.args.piece.now (memory_state c.args.self.now) (memory_state c.new.self.now) c.args.self.now.recorder.say_count c.ensures.made;
+        disk = record { same_telling = refl; same_folder = kept.0; same_faults = kept.1 };
+      };
     }
