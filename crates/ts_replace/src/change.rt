@@ -1,10 +1,8 @@
 // A file is changed whole: its new bytes are settled under another name first.
-ghost use Rattle.std.specs.Prelude.{◌≡◌, ◌≢◌, IsTrue, OnOk, Some};
+ghost use Rattle.std.specs.Prelude.{◌≡◌, ◌≢◌, IsTrue, OnOk, Some, is_err};
 ghost use Rattle.std.specs.FinMap.{get, insert, contains_key};
-ghost use Rattle.ts_site.specs.Faults.{CountsFault};
 ghost use Rattle.ts_site.specs.Folder.{Writes, Renames, moved};
-ghost use Rattle.ts_site.specs.Output.{IsSameOutput};
-ghost use Rattle.ts_site.specs.Telling.{Tells};
+ghost use Rattle.ts_site.specs.Outside.{OnlyDisk};
 ghost use Rattle.ts_replace.specs.Replaced.{new_tmp, replaced, Replaces};
 
 use ts_site::{Disk, Failed, FileName, Site};
@@ -12,10 +10,9 @@ use ts_site::{Disk, Failed, FileName, Site};
 /// Writes the bytes to `new.tmp` and settles them. The first failure ends the call.
 pub fn stage<W: Site>(site: &mut W, name: &FileName, bytes: &[u8]) -> Result<(), Failed>
     requires { name.now ≢ new_tmp }
-    ensures folder { Tells (W.tells_folder site.old) (W.tells_folder site.new)
-        (Writes result new_tmp (insert (W.now site.old) new_tmp bytes.now) (W.now site.old) (W.now site.new)) }
-    ensures counts { CountsFault result (W.disk_faults site.old) (W.disk_faults site.new) }
-    ensures output { IsSameOutput W.tells_output W.told W.say_faults site.old site.new }
+    ensures folder { IsTrue (W.outside site.old).tells_folder
+        → (Writes result new_tmp (insert (W.outside site.old).folder new_tmp bytes.now) (W.outside site.old).folder (W.outside site.new).folder) }
+    ensures disk { OnlyDisk (is_err result) (W.outside site.old) (W.outside site.new) }
 {
     let temporary = temporary_name();
     site.create(&temporary)?;
@@ -26,15 +23,14 @@ pub fn stage<W: Site>(site: &mut W, name: &FileName, bytes: &[u8]) -> Result<(),
 /// Moves `new.tmp` to the name and settles the names. The first failure ends the call.
 pub fn place<W: Site>(site: &mut W, name: &FileName, bytes: &[u8]) -> Result<(), Failed>
     requires other { name.now ≢ new_tmp }
-    requires standing { IsTrue (W.tells_folder site.old) → IsTrue (contains_key (W.now site.old) new_tmp) }
-    ensures folder { Tells (W.tells_folder site.old) (W.tells_folder site.new)
-        (Renames result (moved (W.now site.old) new_tmp name.now) (W.now site.old) (W.now site.new)) }
+    requires standing { IsTrue (W.outside site.old).tells_folder → IsTrue (contains_key (W.outside site.old).folder new_tmp) }
+    ensures folder { IsTrue (W.outside site.old).tells_folder
+        → (Renames result (moved (W.outside site.old).folder new_tmp name.now) (W.outside site.old).folder (W.outside site.new).folder) }
 
     // Where `new.tmp` holds the bytes, the name holds them.
-    ensures staged { IsTrue (W.tells_folder site.old) → get (W.now site.old) new_tmp ≡ Some bytes.now
-        → OnOk result (W.now site.new ≡ replaced (W.now site.old) name.now bytes.now) }
-    ensures counts { CountsFault result (W.disk_faults site.old) (W.disk_faults site.new) }
-    ensures output { IsSameOutput W.tells_output W.told W.say_faults site.old site.new }
+    ensures staged { IsTrue (W.outside site.old).tells_folder → get (W.outside site.old).folder new_tmp ≡ Some bytes.now
+        → OnOk result ((W.outside site.new).folder ≡ replaced (W.outside site.old).folder name.now bytes.now) }
+    ensures disk { OnlyDisk (is_err result) (W.outside site.old) (W.outside site.new) }
 {
     site.rename(&temporary_name(), name)?;
     site.sync_names()
@@ -43,10 +39,9 @@ pub fn place<W: Site>(site: &mut W, name: &FileName, bytes: &[u8]) -> Result<(),
 /// Gives the name these bytes: `stage`, and then `place`. The first failure ends the call.
 pub fn replace<W: Site>(site: &mut W, name: &FileName, bytes: &[u8]) -> Result<(), Failed>
     requires { name.now ≢ new_tmp }
-    ensures folder { Tells (W.tells_folder site.old) (W.tells_folder site.new)
-        (Replaces result name.now bytes.now (W.now site.old) (W.now site.new)) }
-    ensures counts { CountsFault result (W.disk_faults site.old) (W.disk_faults site.new) }
-    ensures output { IsSameOutput W.tells_output W.told W.say_faults site.old site.new }
+    ensures folder { IsTrue (W.outside site.old).tells_folder
+        → (Replaces result name.now bytes.now (W.outside site.old).folder (W.outside site.new).folder) }
+    ensures disk { OnlyDisk (is_err result) (W.outside site.old) (W.outside site.new) }
 {
     stage(site, name, bytes)?;
     place(site, name, bytes)

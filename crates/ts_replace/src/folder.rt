@@ -1,14 +1,14 @@
 // What stands in a folder.
-ghost use Rattle.std.specs.Prelude.{◌≡◌, ◌≢◌, ◌++◌, ℕ, List, All, IfOk, MatchOption, codes};
+ghost use Rattle.std.specs.Prelude.{◌≡◌, ◌≢◌, ◌++◌, ℕ, List, All, IsTrue, IfOk, MatchOption, codes};
 ghost use Rattle.std.specs.Ordering.{nat_cmp};
 ghost use Rattle.std.specs.Cmp.Lexicographic.{slice_cmp};
 ghost use Rattle.std.specs.List.Sorted.{IsStrictlyIncreasing, IsStrictlySortedBy};
-ghost use Rattle.ts_site.specs.Output.{IsSameOutput};
-ghost use Rattle.ts_site.specs.Telling.{Tells};
+ghost use Rattle.ts_site.specs.Faults.{is_err_and};
+ghost use Rattle.ts_site.specs.Outside.{OnlyReads};
 ghost use Rattle.ts_model.specs.LayerText.{layer_text};
 ghost use Rattle.ts_model.specs.Names.{IsLabelName};
 ghost use Rattle.ts_replace.specs.Names.{IsLayerNumber};
-ghost use Rattle.ts_replace.specs.ScanFail.{CountsScanFault};
+ghost use Rattle.ts_replace.specs.ScanFail.{is_scan_fault};
 ghost use Rattle.ts_replace.specs.Scanned.{Rise, AreThoseOf, AreNamedIn};
 
 use crate::ScanFail;
@@ -30,11 +30,9 @@ impl Folder {
         ensures rising { IfOk result (λ found. Rise found.layers.items found.rollups.items found.labels.items) }
         ensures numbers { IfOk result (λ found. All IsLayerNumber found.layers.items) }
         ensures rollup_numbers { IfOk result (λ found. All IsLayerNumber found.rollups.items) }
-        ensures folder { Tells (W.tells_folder site.old) (W.tells_folder site.new)
-            ((W.now site.new ≡ W.now site.old)
-            × IfOk result (λ found. AreThoseOf (W.now site.old) found.layers.items found.rollups.items found.labels.items)) }
-        ensures counts { CountsScanFault result (W.disk_faults site.old) (W.disk_faults site.new) }
-        ensures output { IsSameOutput W.tells_output W.told W.say_faults site.old site.new }
+        ensures names { IsTrue (W.outside site.old).tells_folder
+            → IfOk result (λ found. AreThoseOf (W.outside site.old).folder found.layers.items found.rollups.items found.labels.items) }
+        ensures reads { OnlyReads (is_err_and is_scan_fault result) (W.outside site.old) (W.outside site.new) }
     {
         let mut names = Vec::new(alloc);
         site.list(alloc, &mut names)?;
