@@ -1,5 +1,5 @@
 // The lines of an input, one at a time.
-ghost use Rattle.std.specs.Prelude.{◌≡◌, ◌≢◌, ◌⊎◌, ◌+◌, ◌-◌, ◌≤◌, ◌<◌, ℕ, List, [], ◌∷◌, ◌++◌, length, map, take, drop, slice_index, slice_range, IsTrue, IfSome, IfNone, IfOk, MatchResult, true, false, vec_len};
+ghost use Rattle.std.specs.Prelude.{◌≡◌, ◌≢◌, ◌⊎◌, ◌+◌, ◌-◌, ◌≤◌, ◌<◌, ℕ, List, [], ◌∷◌, ◌++◌, length, map, take, drop, slice_index, slice_range, IsTrue, IfSome, IfNone, IfOk, MatchResult, is_err, true, false, vec_len};
 ghost use Rattle.ts_script.specs.Lines.{HasNoEnd, is_end, seen, given, lines_of, feed_of};
 ghost use Rattle.ts_site.specs.Faults.{CountsFault};
 ghost use Rattle.ts_script.specs.Stops.{CountsStop};
@@ -121,7 +121,7 @@ fn take_at<S: Source>(
     ensures within { IfOk result (λ n. n ≤ most) }
     ensures taken { Tells (S.tells input.old) (S.tells input.new)
         (MatchResult result (λ n. TakesBytes n (S.left input.old) (S.left input.new) (drop at room.new)) (λ _. S.left input.new ≡ S.left input.old)) }
-    ensures counts { CountsFault result (S.faults input.old) (S.faults input.new) }
+    ensures counts { CountsFault (is_err result) (S.faults input.old) (S.faults input.new) }
 {
     let window = &mut room[at..at + most];
     input.take(window)
@@ -141,7 +141,7 @@ fn take_into<S: Source>(
     ensures within { IfOk result (λ n. n ≤ most) }
     ensures taken { Tells (S.tells input.old) (S.tells input.new)
         (MatchResult result (λ n. TakesBytes n (S.left input.old) (S.left input.new) (drop at buffer.new.items)) (λ _. S.left input.new ≡ S.left input.old)) }
-    ensures counts { CountsFault result (S.faults input.old) (S.faults input.new) }
+    ensures counts { CountsFault (is_err result) (S.faults input.old) (S.faults input.new) }
 {
     take_at(input, buffer, at, most)
 }
