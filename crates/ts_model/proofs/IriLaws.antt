@@ -1,4 +1,4 @@
--- What is written of the characters of an IRI: each is found by its front, and none begins with the mark that ends them.
+-- What is written of the characters of an IRI: each is found by its front, and none begins with the delimiter.
 use Rattle.std.specs.Prelude.{◌≡◌, ◌≢◌, ◌↔◌, ℕ, ◌+◌, ◌*◌, ◌/◌, ◌%◌, ◌<◌, ◌≤◌, Bool, true, false, List, [], ◌∷◌, ◌++◌}
 use Rattle.std.specs.Char.{IsScalar, encode_utf8, len_utf8}
 use Rattle.std.proofs.Common.{sym, ap, ◌∙◌, refl, arith, cond, length, length-append, true≢false, inl, inr}
@@ -8,8 +8,8 @@ use Rattle.std.proofs.lemmas.Str.{encode_same, length-encode, len_utf8_bounds}
 use lib.Utf8.{low_scalar}
 use Rattle.ts_model.specs.Characters.{is_in_ranges, is_iri_character}
 use Rattle.ts_model.specs.Iri.{upper_digit, iri_escape, iri_character, IsIri}
-use Rattle.ts_model.specs.Pieces.{EndsAt}
-use Rattle.ts_model.proofs.PieceLaws.{IsCode, first_is_mark}
+use Rattle.ts_model.specs.Delimited.{EndsAt}
+use Rattle.ts_model.proofs.DelimitedLaws.{IsCode, first_is_byte}
 
 -- what is escaped is of ASCII
 pub escaped_below : (c : ℕ) → is_iri_character c ≡ false → c < 128
@@ -59,10 +59,10 @@ one_character c d r t e = elim (cases_Bool (is_iri_character c)) [
   ]
 ]
 
--- no character begins with the mark
-pub mark_apart : (c : ℕ) (r t : List ℕ) → iri_character c ++ r ≢ 0x3E ∷ t
+-- no character begins with the delimiter
+pub delimiter_apart : (c : ℕ) (r t : List ℕ) → iri_character c ++ r ≢ 0x3E ∷ t
 unfolding encode_utf8
-mark_apart c r t e = elim (cases_Bool (is_iri_character c)) [
+delimiter_apart c r t e = elim (cases_Bool (is_iri_character c)) [
   | inl direct ↦
       let same : c ≡ 0x3E = (encode_same c 0x3E r t (ap (λ l. l ++ r) (sym (direct_written c direct)) ∙ e)).0 in
       true≢false (sym direct ∙ ap is_iri_character same)
@@ -72,7 +72,7 @@ mark_apart c r t e = elim (cases_Bool (is_iri_character c)) [
 ]
 
 pub iri_code : IsCode iri_character 0x3E
-iri_code = record { one = one_character; apart = mark_apart }
+iri_code = record { one = one_character; apart = delimiter_apart }
 
 pub length_written : (c : ℕ) → 1 ≤ length (iri_character c)
 length_written c = elim (cases_Bool (is_iri_character c)) [
@@ -130,7 +130,7 @@ digit_below digit small = grind (arith, nat_tests)
 pub no_digit : (text behind : List ℕ) (first : ℕ) → text ≡ encode_utf8 first ++ behind → is_upper_digit first ≡ false
     → (digit : ℕ) (rest : List ℕ) → digit < 16 → text ≢ upper_digit digit ∷ rest
 no_digit text behind first begins other digit rest small e =
-    let same : first ≡ upper_digit digit = (first_is_mark text behind rest first (upper_digit digit) begins (digit_below digit small) e).0 in
+    let same : first ≡ upper_digit digit = (first_is_byte text behind rest first (upper_digit digit) begins (digit_below digit small) e).0 in
     true≢false (sym (digit_range digit small) ∙ sym (ap is_upper_digit same) ∙ other)
 
 -- ---- an escape at the front of a text
@@ -150,11 +150,11 @@ number_written text digits middle rest high low h l begins first second =
 
 -- ---- the whole IRI
 
-pub inside_marks : (text inside : List ℕ) → text ≡ 0x3C ∷ inside → IsIri text ↔ EndsAt iri_character 0x3E inside []
-inside_marks text inside begins = (
-  λ iri. record { characters = iri.characters; scalars = iri.scalars; spelled = behind_mark text inside _ begins iri.spelled },
+pub inside_delimiters : (text inside : List ℕ) → text ≡ 0x3C ∷ inside → IsIri text ↔ EndsAt iri_character 0x3E inside []
+inside_delimiters text inside begins = (
+  λ iri. record { characters = iri.characters; scalars = iri.scalars; spelled = behind_delimiter text inside _ begins iri.spelled },
   λ ends. record { characters = ends.characters; scalars = ends.scalars; spelled = begins ∙ ap (λ l. 0x3C ∷ l) ends.spelled },
 )
   where
-    behind_mark : (text inside other : List ℕ) → text ≡ 0x3C ∷ inside → text ≡ 0x3C ∷ other → inside ≡ other
-    behind_mark text inside other e f = cc
+    behind_delimiter : (text inside other : List ℕ) → text ≡ 0x3C ∷ inside → text ≡ 0x3C ∷ other → inside ≡ other
+    behind_delimiter text inside other e f = cc

@@ -9,9 +9,9 @@ pub mod LayerLemmas
 pub mod LentLaws
 pub mod ListLaws
 pub mod LiteralLaws
-pub mod MarkLaws
+pub mod WholeTextLaws
 pub mod NetLaws
-pub mod PieceLaws
+pub mod DelimitedLaws
 pub mod SetAlgebra
 pub mod SetLaws
 pub mod SpellingLaws

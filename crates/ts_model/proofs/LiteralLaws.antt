@@ -8,8 +8,8 @@ use Rattle.std.proofs.lemmas.Bool.Decides.{nat_tests}
 use Rattle.std.proofs.lemmas.Str.{encode_same, encode_ascii}
 use Rattle.ts_model.specs.Iri.{IsIri, iri_spelling, iri_character}
 use Rattle.ts_model.specs.Literal.{string_character, string_type, IsLiteral, IsEnding, IsTypeEnding, IsLanguageEnding}
-use Rattle.ts_model.specs.Pieces.{EndsAt}
-use Rattle.ts_model.proofs.PieceLaws.{IsCode, same_characters, first_is_mark}
+use Rattle.ts_model.specs.Delimited.{EndsAt}
+use Rattle.ts_model.proofs.DelimitedLaws.{IsCode, same_characters, first_is_byte}
 use Rattle.ts_model.proofs.IriLaws.{iri_code}
 use Rattle.ts_model.proofs.TextLaws.{one_byte}
 
@@ -83,8 +83,8 @@ no_quote letter r t e = cc
 quote_first : (c : ℕ) (r t : List ℕ) → encode_utf8 c ++ r ≡ 0x22 ∷ t → c ≡ 0x22
 quote_first c r t e = (encode_same c 0x22 r t (e ∙ ap (λ l. l ++ t) (sym (encode_ascii 0x22 (omega arith))))).0
 
-mark_apart : (c : ℕ) (r t : List ℕ) → string_character c ++ r ≡ 0x22 ∷ t → ⊥
-mark_apart c r t e = elim (is_written c) [
+delimiter_apart : (c : ℕ) (r t : List ℕ) → string_character c ++ r ≡ 0x22 ∷ t → ⊥
+delimiter_apart c r t e = elim (is_written c) [
   | escaped letter is from wrote ↦ no_quote letter r t (sym (with_escape c letter r wrote) ∙ e)
   | plain is ↦ is.quote (quote_first c r t (sym (with_plain c r is) ∙ e))
 ]
@@ -92,7 +92,7 @@ mark_apart c r t e = elim (is_written c) [
 pub string_code : IsCode string_character 0x22
 string_code = record {
   one = λ c d r t e. one_character c d r t (is_written c) (is_written d) e;
-  apart = mark_apart;
+  apart = delimiter_apart;
 }
 
 pub length_written : (c : ℕ) → 1 ≤ length (string_character c)
@@ -118,10 +118,10 @@ neither text behind first begins other not_plain c rest e = elim (is_written c) 
       not_plain (subst IsPlain (sym same) is)
 ]
 
-pub mark_or_break : (first : ℕ) → (first ≡ 0x0A) ⊎ ((first ≡ 0x0D) ⊎ (first ≡ 0x22)) → (first ≡ 0x5C → ⊥) × (IsPlain first → ⊥)
-mark_or_break first (inl is) = (λ e. absurd (omega arith), λ plain. plain.feed is)
-mark_or_break first (inr (inl is)) = (λ e. absurd (omega arith), λ plain. plain.return is)
-mark_or_break first (inr (inr is)) = (λ e. absurd (omega arith), λ plain. plain.quote is)
+pub quote_or_break : (first : ℕ) → (first ≡ 0x0A) ⊎ ((first ≡ 0x0D) ⊎ (first ≡ 0x22)) → (first ≡ 0x5C → ⊥) × (IsPlain first → ⊥)
+quote_or_break first (inl is) = (λ e. absurd (omega arith), λ plain. plain.feed is)
+quote_or_break first (inr (inl is)) = (λ e. absurd (omega arith), λ plain. plain.return is)
+quote_or_break first (inr (inr is)) = (λ e. absurd (omega arith), λ plain. plain.quote is)
 
 -- behind the backslash stands no letter of an escape
 pub no_letter : (text : List ℕ) → ((letter : ℕ) (rest : List ℕ) → is_letter_of_escape letter ≡ true → text ≡ letter ∷ rest → ⊥)
@@ -142,7 +142,7 @@ letter_below b is = grind (arith, nat_tests)
 pub other_letter : (text behind : List ℕ) (first : ℕ) → text ≡ encode_utf8 first ++ behind → is_letter_of_escape first ≡ false
     → (letter : ℕ) (rest : List ℕ) → is_letter_of_escape letter ≡ true → text ≡ letter ∷ rest → ⊥
 other_letter text behind first begins other letter rest is e =
-    let same : first ≡ letter = (first_is_mark text behind rest first letter begins (letter_below letter is) e).0 in
+    let same : first ≡ letter = (first_is_byte text behind rest first letter begins (letter_below letter is) e).0 in
     true≢false (sym is ∙ sym (ap is_letter_of_escape same) ∙ other)
 
 -- ---- what stands behind the string

@@ -13,7 +13,7 @@ use Rattle.ts_model.specs.declared.signed.Sign.TheVariants.{Add}
 use Rattle.ts_model.specs.declared.signed.SignedTriple.{SignedTriple}
 use Rattle.ts_model.specs.TextTriple.{TextTriple}
 use Rattle.ts_model.specs.Order.{triple_cmp, triple_cmp_total, triple_cmp-IsAntisymmetric}
-use Rattle.ts_model.specs.NetChange.{names, last_sign, is_added, named, added}
+use Rattle.ts_model.specs.NetChange.{is_line_of, last_sign, is_added, body_triples, added}
 use Rattle.ts_model.specs.Sets.{contains, members}
 use Rattle.ts_model.proofs.ListLaws.{head_of, find-filter, is_some-find, find-dedup, list_any-map, IsStrictlySortedBy-map}
 use Rattle.ts_model.proofs.SetLaws.{contains-from_list, contains-retain, members_are}
@@ -44,26 +44,26 @@ ties_are Equal = refl
 ties_are Greater = refl
 
 -- lines with one triple tie
-names-ties : (q : TextTriple) (line : SignedTriple) → names q line ≡ ties (λ x y. is_lt (line_cmp x y)) (record { sign = Add; triple = q }) line
-names-ties q line = ties_are (triple_cmp q line.triple) ∙ ap (λ r. not (is_lt (triple_cmp q line.triple)) && not (is_lt r)) (sym (triple_cmp_total.antisymm line.triple q))
+is_line_of-ties : (q : TextTriple) (line : SignedTriple) → is_line_of q line ≡ ties (λ x y. is_lt (line_cmp x y)) (record { sign = Add; triple = q }) line
+is_line_of-ties q line = ties_are (triple_cmp q line.triple) ∙ ap (λ r. not (is_lt (triple_cmp q line.triple)) && not (is_lt r)) (sym (triple_cmp_total.antisymm line.triple q))
 
 -- a stable sort leaves the first line of each triple
-find-stable : (xs ys : List SignedTriple) → IsStable line_cmp xs ys → (q : TextTriple) → find (names q) ys ≡ find (names q) xs
+find-stable : (xs ys : List SignedTriple) → IsStable line_cmp xs ys → (q : TextTriple) → find (is_line_of q) ys ≡ find (is_line_of q) xs
 find-stable xs ys stable q =
-    find-filter (names q) ys
-    ∙ ap head_of ((λ i. filter (λ line. names-ties q line i) ys) ∙ stable (record { sign = Add; triple = q }) ∙ (λ i. filter (λ line. sym (names-ties q line) i) xs))
-    ∙ sym (find-filter (names q) xs)
+    find-filter (is_line_of q) ys
+    ∙ ap head_of ((λ i. filter (λ line. is_line_of-ties q line i) ys) ∙ stable (record { sign = Add; triple = q }) ∙ (λ i. filter (λ line. sym (is_line_of-ties q line) i) xs))
+    ∙ sym (find-filter (is_line_of q) xs)
 
-find-kept : (q : TextTriple) (ys : List SignedTriple) → find (names q) (dedup is_same ys) ≡ find (names q) ys
-find-kept q ys = find-dedup is_same (names q) (λ x k e. ap (λ t. eq_by_cmp triple_cmp q t) (same_triple x k e)) ys
+find-kept : (q : TextTriple) (ys : List SignedTriple) → find (is_line_of q) (dedup is_same ys) ≡ find (is_line_of q) ys
+find-kept q ys = find-dedup is_same (is_line_of q) (λ x k e. ap (λ t. eq_by_cmp triple_cmp q t) (same_triple x k e)) ys
 
 -- ---- the triples that are added, of lines of which each triple has one
 
-none_above : (q : TextTriple) (x : SignedTriple) (lines : List SignedTriple) → names q x ≡ true → AllByRecursion (λ y. line_cmp x y ≡ Less) lines → find (names q) lines ≡ None
+none_above : (q : TextTriple) (x : SignedTriple) (lines : List SignedTriple) → is_line_of q x ≡ true → AllByRecursion (λ y. line_cmp x y ≡ Less) lines → find (is_line_of q) lines ≡ None
 none_above q x [] e a = refl
 none_above q x (y ∷ ys) e a =
     let equal = (Equal-is (triple_cmp q x.triple)).0 e in
-    ap (λ r. cond (is_eq r) (Some y) (find (names q) ys)) (triple_cmp_total.congr q x.triple y.triple equal ∙ a.0) ∙ none_above q x ys e a.1
+    ap (λ r. cond (is_eq r) (Some y) (find (is_line_of q) ys)) (triple_cmp_total.congr q x.triple y.triple equal ∙ a.0) ∙ none_above q x ys e a.1
 
 abbrev is_among : TextTriple → List SignedTriple → Bool
 is_among q lines = list_any (eq_by_cmp triple_cmp q) (triples_of lines)
@@ -71,22 +71,22 @@ is_among q lines = list_any (eq_by_cmp triple_cmp q) (triples_of lines)
 abbrev sign_found : Option SignedTriple → Bool
 sign_found o = is_added (option_map (λ line. line.sign) o)
 
-named_here : (q : TextTriple) (x : SignedTriple) (rest : List SignedTriple) (b : Bool) → names q x ≡ true → is_among q rest ≡ false → is_among q (cond b (x ∷ rest) rest) ≡ b
-named_here q x rest true e none = ap (λ c. c || is_among q rest) e
-named_here q x rest false e none = none
+line_here : (q : TextTriple) (x : SignedTriple) (rest : List SignedTriple) (b : Bool) → is_line_of q x ≡ true → is_among q rest ≡ false → is_among q (cond b (x ∷ rest) rest) ≡ b
+line_here q x rest true e none = ap (λ c. c || is_among q rest) e
+line_here q x rest false e none = none
 
-named_later : (q : TextTriple) (x : SignedTriple) (rest : List SignedTriple) (b : Bool) → names q x ≡ false → is_among q (cond b (x ∷ rest) rest) ≡ is_among q rest
-named_later q x rest true e = ap (λ c. c || is_among q rest) e
-named_later q x rest false e = refl
+line_later : (q : TextTriple) (x : SignedTriple) (rest : List SignedTriple) (b : Bool) → is_line_of q x ≡ false → is_among q (cond b (x ∷ rest) rest) ≡ is_among q rest
+line_later q x rest true e = ap (λ c. c || is_among q rest) e
+line_later q x rest false e = refl
 
-any_added : (q : TextTriple) (lines : List SignedTriple) → IsStrictlySortedBy line_cmp lines → is_among q (filter adds lines) ≡ sign_found (find (names q) lines)
+any_added : (q : TextTriple) (lines : List SignedTriple) → IsStrictlySortedBy line_cmp lines → is_among q (filter adds lines) ≡ sign_found (find (is_line_of q) lines)
 unfolding IsStrictlySortedBy
 any_added q [] h = refl
 any_added q (x ∷ xs) h =
-    let later : is_among q (filter adds xs) ≡ sign_found (find (names q) xs) = any_added q xs h.1 in
-    elim (names q x) as (λ b. names q x ≡ b → is_among q (filter adds (x ∷ xs)) ≡ sign_found (cond b (Some x) (find (names q) xs))) [
-      | true ↦ λ e. named_here q x (filter adds xs) (adds x) e (later ∙ ap sign_found (none_above q x xs e h.0))
-      | false ↦ λ e. named_later q x (filter adds xs) (adds x) e ∙ later
+    let later : is_among q (filter adds xs) ≡ sign_found (find (is_line_of q) xs) = any_added q xs h.1 in
+    elim (is_line_of q x) as (λ b. is_line_of q x ≡ b → is_among q (filter adds (x ∷ xs)) ≡ sign_found (cond b (Some x) (find (is_line_of q) xs))) [
+      | true ↦ λ e. line_here q x (filter adds xs) (adds x) e (later ∙ ap sign_found (none_above q x xs e h.0))
+      | false ↦ λ e. line_later q x (filter adds xs) (adds x) e ∙ later
     ] refl
 
 -- ---- the set
@@ -98,14 +98,14 @@ is_found (Some line) = refl
 -- a body adds a triple exactly where its last sign is `Add`
 pub contains-added : (body : List SignedTriple) (q : TextTriple) → contains (added body) q ≡ is_added (last_sign body q)
 contains-added body q =
-    contains-retain triple_cmp (named body) (λ triple. is_added (last_sign body triple)) q (λ x e. ap (λ t. is_added (last_sign body t)) (sym (triple_cmp-IsAntisymmetric q x e)))
+    contains-retain triple_cmp (body_triples body) (λ triple. is_added (last_sign body triple)) q (λ x e. ap (λ t. is_added (last_sign body t)) (sym (triple_cmp-IsAntisymmetric q x e)))
     ∙ ap (λ b. b && is_added (last_sign body q)) (
     contains-from_list triple_cmp triple_cmp_total (triples_of body) q
     ∙ list_any-map (eq_by_cmp triple_cmp q) (λ (line : SignedTriple). line.triple) body
-    ∙ list_any-IsPermutation (names q) body (reverse body) (IsPermutation-reverse body)
-    ∙ sym (is_some-find (names q) (reverse body))
+    ∙ list_any-IsPermutation (is_line_of q) body (reverse body) (IsPermutation-reverse body)
+    ∙ sym (is_some-find (is_line_of q) (reverse body))
     )
-    ∙ is_found (find (names q) (reverse body))
+    ∙ is_found (find (is_line_of q) (reverse body))
 
 pub net_additions_are : (body sorted : List SignedTriple) → IsSorted line_cmp sorted → IsStable line_cmp (reverse body) sorted
     → triples_of (filter adds (dedup is_same sorted)) ≡ members (added body)

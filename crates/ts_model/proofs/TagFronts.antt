@@ -14,49 +14,49 @@ InFirst c = IsTrue (is_letter c)
 abbrev pub InNext : ℕ → Type 0
 InNext c = IsTrue (is_letter c || is_digit c)
 
-abbrev pub marked_parts : List (List ℕ) → List ℕ
-marked_parts others = flat_map (λ part. 0x2D ∷ part) others
+abbrev pub hyphen_parts : List (List ℕ) → List ℕ
+hyphen_parts others = flat_map (λ part. 0x2D ∷ part) others
 
 -- what a tag has behind its first part
 abbrev pub IsOtherParts : List ℕ → Type 0
-IsOtherParts front = (others : List (List ℕ)) × All IsNextPart others × (front ≡ marked_parts others)
+IsOtherParts front = (others : List (List ℕ)) × All IsNextPart others × (front ≡ hyphen_parts others)
 
 -- Behind a part that is as long as it can be stand the longest other parts: then no part and other parts are longer.
 parts_end : (P : ℕ → Type 0) (part tail parts rest part' : List ℕ) (others' : List (List ℕ)) (more : List ℕ)
     → (P 0x2D → ⊥) → All P part → Stops P tail → IsLongest IsOtherParts tail parts rest
-    → All P part' → All IsNextPart others' → part ++ tail ≡ (part' ++ marked_parts others') ++ more
-    → length (part' ++ marked_parts others') ≤ length (part ++ parts)
-parts_end P part tail parts rest part' others' more no_mark all stops longest all' nexts same =
-    let split = within P part tail part' (marked_parts others' ++ more) all' stops (same ∙ append_assoc part' (marked_parts others') more) in
+    → All P part' → All IsNextPart others' → part ++ tail ≡ (part' ++ hyphen_parts others') ++ more
+    → length (part' ++ hyphen_parts others') ≤ length (part ++ parts)
+parts_end P part tail parts rest part' others' more no_hyphen all stops longest all' nexts same =
+    let split = within P part tail part' (hyphen_parts others' ++ more) all' stops (same ∙ append_assoc part' (hyphen_parts others') more) in
     compare (split.0) others' nexts (split.1) (split.2)
   where
-    compare : (middle : List ℕ) (others' : List (List ℕ)) → All IsNextPart others' → part ≡ part' ++ middle → marked_parts others' ++ more ≡ middle ++ tail
-        → length (part' ++ marked_parts others') ≤ length (part ++ parts)
+    compare : (middle : List ℕ) (others' : List (List ℕ)) → All IsNextPart others' → part ≡ part' ++ middle → hyphen_parts others' ++ more ≡ middle ++ tail
+        → length (part' ++ hyphen_parts others') ≤ length (part ++ parts)
     compare [] others' nexts here behind =
-        let short = longest.longest (marked_parts others') more (others', nexts, refl) (sym behind) in
+        let short = longest.longest (hyphen_parts others') more (others', nexts, refl) (sym behind) in
         let long : length part ≡ length (part' ++ []) = ap length here in
-        omega (arith, short, long, length-append part' [], length-append part' (marked_parts others'), length-append part parts)
+        omega (arith, short, long, length-append part' [], length-append part' (hyphen_parts others'), length-append part parts)
     compare (m ∷ middle) [] nexts here behind =
         let long : length part ≡ length (part' ++ m ∷ middle) = ap length here in
         omega (arith, long, length-append part' (m ∷ middle), length-append part' [], length-append part parts)
     compare (m ∷ middle) (other ∷ others') nexts here behind =
-        let heads = same_heads 0x2D m ((other ++ marked_parts others') ++ more) (middle ++ tail) behind in
+        let heads = same_heads 0x2D m ((other ++ hyphen_parts others') ++ more) (middle ++ tail) behind in
         let split = all_front P part' (m ∷ middle) (All-same P (part' ++ m ∷ middle) part (sym here) all) in
-        absurd (no_mark (subst P (sym (heads.0)) (All-head P m middle (split.1))))
+        absurd (no_hyphen (subst P (sym (heads.0)) (All-head P m middle (split.1))))
 
-letter_mark : InFirst 0x2D → ⊥
-letter_mark is = true≢false (sym is)
+letter_hyphen : InFirst 0x2D → ⊥
+letter_hyphen is = true≢false (sym is)
 
-next_mark : InNext 0x2D → ⊥
-next_mark is = true≢false (sym is)
+next_hyphen : InNext 0x2D → ⊥
+next_hyphen is = true≢false (sym is)
 
 pub others_none : (text : List ℕ) → ((part rest : List ℕ) → IsNextPart part → text ≢ 0x2D ∷ part ++ rest) → IsLongest IsOtherParts text [] text
 others_none text none = record { has = ([], All-nil IsNextPart, refl); parts = refl; longest = longest } where
-  shorter : (other more : List ℕ) (others : List (List ℕ)) → All IsNextPart others → other ≡ marked_parts others → text ≡ other ++ more → length other ≤ 0
+  shorter : (other more : List ℕ) (others : List (List ℕ)) → All IsNextPart others → other ≡ hyphen_parts others → text ≡ other ++ more → length other ≤ 0
   shorter other more [] all spelled same = let long : length other ≡ 0 = ap length spelled in omega arith
   shorter other more (part ∷ others) all spelled same =
-      absurd (none part (marked_parts others ++ more) (All-head IsNextPart part others all)
-      (same ∙ ap (λ r. r ++ more) spelled ∙ ap (λ r. 0x2D ∷ r) (append_assoc part (marked_parts others) more)))
+      absurd (none part (hyphen_parts others ++ more) (All-head IsNextPart part others all)
+      (same ∙ ap (λ r. r ++ more) spelled ∙ ap (λ r. 0x2D ∷ r) (append_assoc part (hyphen_parts others) more)))
 
   longest : (other more : List ℕ) → IsOtherParts other → text ≡ other ++ more → length other ≤ 0
   longest other more (others, all, spelled) same = shorter other more others all spelled same
@@ -68,13 +68,13 @@ others_more text behind part tail begins here parts rest behind_it = record {
   parts = begins ∙ ap (λ r. 0x2D ∷ r) (here.parts ∙ ap (λ r. part ++ r) behind_it.parts ∙ sym (append_assoc part parts rest));
   longest = longest;
 } where
-  shorter : (other more : List ℕ) (others : List (List ℕ)) → All IsNextPart others → other ≡ marked_parts others → text ≡ other ++ more → length other ≤ length (0x2D ∷ part ++ parts)
+  shorter : (other more : List ℕ) (others : List (List ℕ)) → All IsNextPart others → other ≡ hyphen_parts others → text ≡ other ++ more → length other ≤ length (0x2D ∷ part ++ parts)
   shorter other more [] all spelled same = let long : length other ≡ 0 = ap length spelled in omega arith
   shorter other more (part' ∷ others) all spelled same =
       let next = All-head IsNextPart part' others all in
-      let heads = same_heads 0x2D 0x2D ((part' ++ marked_parts others) ++ more) behind (ap (λ r. r ++ more) (sym spelled) ∙ sym same ∙ begins) in
-      let short = parts_end InNext part tail parts rest part' others more next_mark (here.has.1) (part_stops InNext behind part tail here) behind_it (next.1) (All-tail IsNextPart part' others all) (sym here.parts ∙ sym (heads.1)) in
-      let long : length other ≡ length (0x2D ∷ part' ++ marked_parts others) = ap length spelled in
+      let heads = same_heads 0x2D 0x2D ((part' ++ hyphen_parts others) ++ more) behind (ap (λ r. r ++ more) (sym spelled) ∙ sym same ∙ begins) in
+      let short = parts_end InNext part tail parts rest part' others more next_hyphen (here.has.1) (part_stops InNext behind part tail here) behind_it (next.1) (All-tail IsNextPart part' others all) (sym here.parts ∙ sym (heads.1)) in
+      let long : length other ≡ length (0x2D ∷ part' ++ hyphen_parts others) = ap length spelled in
       omega arith
 
   longest : (other more : List ℕ) → IsOtherParts other → text ≡ other ++ more → length other ≤ length (0x2D ∷ part ++ parts)
@@ -91,14 +91,14 @@ tag_longest text part tail rest here (parts, behind_it) = (
 ) where
   longest : (other more : List ℕ) → IsTag other → text ≡ other ++ more → length other ≤ length (part ++ parts)
   longest other more (part', others, first, nexts, spelled) same =
-      let whole : part ++ tail ≡ (part' ++ marked_parts others) ++ more = sym here.parts ∙ same ∙ ap (λ r. r ++ more) spelled in
-      let short = parts_end InFirst part tail parts rest part' others more letter_mark (here.has.1) (part_stops InFirst text part tail here) behind_it (first.1) nexts whole in
-      let long : length other ≡ length (part' ++ marked_parts others) = ap length spelled in
+      let whole : part ++ tail ≡ (part' ++ hyphen_parts others) ++ more = sym here.parts ∙ same ∙ ap (λ r. r ++ more) spelled in
+      let short = parts_end InFirst part tail parts rest part' others more letter_hyphen (here.has.1) (part_stops InFirst text part tail here) behind_it (first.1) nexts whole in
+      let long : length other ≡ length (part' ++ hyphen_parts others) = ap length spelled in
       omega arith
 
 pub no_tag : (text tag rest : List ℕ) → ((part more : List ℕ) → IsFirstPart part → text ≢ part ++ more) → IsTag tag → text ≢ tag ++ rest
 no_tag text tag rest none (part, others, first, nexts, spelled) same =
-    none part (marked_parts others ++ rest) first (same ∙ ap (λ r. r ++ rest) spelled ∙ append_assoc part (marked_parts others) rest)
+    none part (hyphen_parts others ++ rest) first (same ∙ ap (λ r. r ++ rest) spelled ∙ append_assoc part (hyphen_parts others) rest)
 
 -- The other parts of a text that have been read: the longest of the rest make the longest of the text.
 abbrev pub OthersSoFar : List ℕ → List ℕ → Type 0
@@ -127,17 +127,17 @@ first_in_tag c is = ap (λ b. b || is_digit c || (c == 0x2D)) is
 next_in_tag : (c : ℕ) → InNext c → InTag c
 next_in_tag c is = ap (λ b. b || (c == 0x2D)) is
 
-others_in_tag : (others : List (List ℕ)) → All IsNextPart others → All InTag (marked_parts others)
+others_in_tag : (others : List (List ℕ)) → All IsNextPart others → All InTag (hyphen_parts others)
 others_in_tag [] all = All-nil InTag
 others_in_tag (part ∷ others) all =
-    All-append InTag (0x2D ∷ part) (marked_parts others)
+    All-append InTag (0x2D ∷ part) (hyphen_parts others)
     (All-cons InTag 0x2D part refl (All-weaker InNext InTag next_in_tag part ((All-head IsNextPart part others all).1)))
     (others_in_tag others (All-tail IsNextPart part others all))
 
 pub tag_in_tag : (tag : List ℕ) → IsTag tag → All InTag tag
 tag_in_tag tag (part, others, first, nexts, spelled) =
-    All-same InTag tag (part ++ marked_parts others) spelled
-    (All-append InTag part (marked_parts others) (All-weaker InFirst InTag first_in_tag part (first.1)) (others_in_tag others nexts))
+    All-same InTag tag (part ++ hyphen_parts others) spelled
+    (All-append InTag part (hyphen_parts others) (All-weaker InFirst InTag first_in_tag part (first.1)) (others_in_tag others nexts))
 
 small_in_tag : (c : ℕ) → InTag c → c < 128
 small_in_tag c is = grind (arith, nat_tests)

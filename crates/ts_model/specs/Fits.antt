@@ -6,7 +6,7 @@ use Rattle.ts_model.specs.TextTerm.{TextTerm}
 use Rattle.ts_model.specs.TextTriple.{TextTriple}
 use Rattle.ts_model.specs.Order.{term_cmp}
 
--- a term that is given fits itself alone, and one that is not fits each
+-- a term that is given fits itself alone; where none is given, every term fits
 abbrev pub term_fits : Option TextTerm → TextTerm → Bool
 term_fits None term = true
 term_fits (Some given) term = eq_by_cmp term_cmp given term

@@ -1,9 +1,10 @@
 -- The history of a store: its layers, each under its number. A base layer stands alone; any other keeps what it adds to its
 -- parent and removes from it.
-use Rattle.std.specs.Prelude.{◌≡◌, ◌≢◌, ℕ, zero, suc, ◌<◌, ◌≤◌, ◌^◌, false, List, [], ◌∷◌, Option, None, Some, Contains, IfSome, IsTrue}
+use Rattle.std.specs.Prelude.{◌≡◌, ◌≢◌, ℕ, zero, suc, ◌<◌, ◌≤◌, false, List, [], ◌∷◌, Option, None, Some, Contains, IfSome, IsTrue}
 use Rattle.std.specs.Option.{option_map, option_and_then}
 use Rattle.std.specs.Ordering.{nat_cmp}
 use Rattle.std.specs.FinMap.{FinMap, empty, get, contains_key}
+use Rattle.ts_model.specs.Limits.{number_limit}
 use Rattle.ts_model.specs.TextTriple.{TextTriple, IsTriple}
 use Rattle.ts_model.specs.Order.{triple_cmp}
 use Rattle.ts_model.specs.Sets.{SetOf, contains, difference, union}
@@ -59,9 +60,9 @@ content_at history k = content_of history (chain_of history k)
 abbrev pub content_below : History → ℕ → SetOf triple_cmp
 content_below history k = content_of history (chain_within k history (parent_at history k))
 
--- a layer keeps to its place: it adds triples that its parent lacks and removes what the parent has, which stands and is less
+-- a layer stands rightly in its history: its parent stands there with a smaller number, and it adds only triples that the parent lacks and removes only triples that it has
 pub record IsLayerKept (history : History) (k : ℕ) (layer : LayerRecord) : Type 0 where
-  pub number : (1 ≤ k) × (k < 2 ^ 32)
+  pub number : (1 ≤ k) × (k < number_limit)
   pub triples : (triple : TextTriple) → IsTrue (contains layer.additions triple) → IsTriple triple
   pub parent : IfSome layer.parent (λ p. (p < k) × IsTrue (contains_key history p))
   pub base : layer.parent ≡ None → layer.removals ≡ empty

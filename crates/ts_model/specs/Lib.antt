@@ -8,13 +8,14 @@ pub mod Fits
 pub mod History
 pub mod Iri
 pub mod LayerText
+pub mod Limits
 pub mod Listing
 pub mod Literal
 pub mod Longest
 pub mod Names
 pub mod NetChange
 pub mod Order
-pub mod Pieces
+pub mod Delimited
 pub mod Refused
 pub mod Sets
 pub mod TextTerm

@@ -4,9 +4,10 @@ use Rattle.ts_model.specs.declared.term.TermKind.{TermKind}
 use Rattle.ts_model.specs.declared.term.TermError.{TermError}
 use Rattle.ts_model.specs.declared.term.TermError.TheVariants.{TooLong, NotCanonical, Memory}
 use Rattle.ts_model.specs.Canonical.{IsCanonical}
+use Rattle.ts_model.specs.Limits.{term_limit}
 
--- over the limit of 1,048,576 bytes; within it and no canonical spelling of that kind; or memory ran out, which any bytes may meet
+-- over the limit; within it and no canonical spelling of that kind; or memory ran out, which only bytes that spell a term can meet
 abbrev pub IsRefusedAs : List ℕ → TermKind → TermError → Type 0
-IsRefusedAs bytes kind TooLong = 1048576 < length bytes
-IsRefusedAs bytes kind NotCanonical = (length bytes ≤ 1048576) × (IsCanonical kind bytes → ⊥)
-IsRefusedAs bytes kind Memory = Unit {0}
+IsRefusedAs bytes kind TooLong = term_limit < length bytes
+IsRefusedAs bytes kind NotCanonical = (length bytes ≤ term_limit) × (IsCanonical kind bytes → ⊥)
+IsRefusedAs bytes kind Memory = (length bytes ≤ term_limit) × IsCanonical kind bytes

@@ -2,11 +2,12 @@
 use Rattle.std.specs.Prelude.{ℕ, ◌≤◌, List, length}
 use Rattle.ts_model.specs.declared.term.TermKind.{TermKind}
 use Rattle.ts_model.specs.Canonical.{IsCanonical}
+use Rattle.ts_model.specs.Limits.{term_limit}
 
 pub record TextTerm : Type 0 where
   pub kind : TermKind
   pub spelling : List ℕ
 
--- the spelling is canonical and within the limit of 1,048,576 bytes
+-- the spelling is canonical and within the limit
 abbrev pub IsTerm : TextTerm → Type 0
-IsTerm term = IsCanonical term.kind term.spelling × (length term.spelling ≤ 1048576)
+IsTerm term = IsCanonical term.kind term.spelling × (length term.spelling ≤ term_limit)

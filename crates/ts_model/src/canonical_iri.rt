@@ -3,16 +3,16 @@ ghost use Rattle.std.specs.Prelude.{◌≡◌, ◌≢◌, ◌↔◌, ℕ, ◌<�
 ghost use Rattle.std.specs.Char.{IsScalar};
 ghost use Rattle.std.specs.Option.{option_map};
 ghost use Rattle.ts_model.specs.Iri.{IsIri, upper_digit, iri_escape, iri_character};
-ghost use Rattle.ts_model.specs.Pieces.{EndsAt};
+ghost use Rattle.ts_model.specs.Delimited.{EndsAt};
 
-use crate::canonical_mark::after_mark;
+use crate::prefix::after_prefix;
 use crate::characters::{is_direct_in_iri, split_char};
 
 /// Whether a text is the canonical spelling of an IRI.
 pub fn is_iri(text: &str) -> bool
     ensures { IsTrue result ↔ IsIri text.now }
 {
-    match after_mark(text, "<") {
+    match after_prefix(text, "<") {
         Some(inside) => match after_iri_characters(inside) {
             Some(rest) => rest.is_empty(),
             None => false,
@@ -29,7 +29,7 @@ fn after_iri_characters(text: &str) -> Option<&str>
     while let Some((_, rest)) = split_iri_character(left) {
         left = rest;
     }
-    after_mark(left, ">")
+    after_prefix(left, ">")
 }
 
 /// The first character of an IRI, as canonical spelling writes it, and the text after it.
@@ -56,7 +56,7 @@ fn split_escape(text: &str) -> Option<(u8, &str)>
     ensures some { IfSome result (λ parts. text.now ≡ iri_escape parts.0 ++ parts.1.now) }
     ensures none { IfNone result ((number : ℕ) (rest : List ℕ) → number < 256 → text.now ≢ iri_escape number ++ rest) }
 {
-    let digits = after_mark(text, "\\u00")?;
+    let digits = after_prefix(text, "\\u00")?;
     let (high, rest) = split_digit(digits)?;
     let (low, rest) = split_digit(rest)?;
     Some((16 * high + low, rest))

@@ -2,14 +2,14 @@
 ghost use Rattle.std.specs.Prelude.{◌↔◌, IsTrue, chars};
 ghost use Rattle.ts_model.specs.BlankLabel.{IsBlankLabel, IsLabel};
 
-use crate::canonical_mark::after_mark;
+use crate::prefix::after_prefix;
 use crate::label::after_label;
 
 /// Whether a text is a blank label: BLANK_NODE_LABEL, with this project's classes of characters.
 pub fn is_blank_label(text: &str) -> bool
     ensures { IsTrue result ↔ IsBlankLabel text.now }
 {
-    match after_mark(text, "_:") {
+    match after_prefix(text, "_:") {
         Some(label) => is_label(label),
         None => false,
     }

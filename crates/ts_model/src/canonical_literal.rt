@@ -3,10 +3,10 @@ ghost use Rattle.std.specs.Prelude.{◌≡◌, ◌≢◌, ◌↔◌, ℕ, List, 
 ghost use Rattle.std.specs.Char.{IsScalar};
 ghost use Rattle.std.specs.Option.{option_map};
 ghost use Rattle.ts_model.specs.Literal.{IsLiteral, IsEnding, IsTypeEnding, string_character};
-ghost use Rattle.ts_model.specs.Pieces.{EndsAt};
+ghost use Rattle.ts_model.specs.Delimited.{EndsAt};
 
 use crate::canonical_iri::is_iri;
-use crate::canonical_mark::after_mark;
+use crate::prefix::after_prefix;
 use crate::canonical_tag::is_tag;
 use crate::characters::split_char;
 
@@ -17,7 +17,7 @@ const STRING_TYPE: &str = "<http://www.w3.org/2001/XMLSchema#string>";
 pub fn is_literal(text: &str) -> bool
     ensures { IsTrue result ↔ IsLiteral text.now }
 {
-    match after_mark(text, "\"") {
+    match after_prefix(text, "\"") {
         Some(inside) => match after_string_characters(inside) {
             Some(ending) => is_ending(ending),
             None => false,
@@ -34,7 +34,7 @@ fn after_string_characters(text: &str) -> Option<&str>
     while let Some((_, rest)) = split_string_character(left) {
         left = rest;
     }
-    after_mark(left, "\"")
+    after_prefix(left, "\"")
 }
 
 /// The first character of a string, as canonical spelling writes it, and the text after it.
@@ -70,10 +70,10 @@ fn split_escaped(text: &str) -> Option<(char, &str)>
 fn is_ending(text: &str) -> bool
     ensures { IsTrue result ↔ IsEnding text.now }
 {
-    if let Some(iri) = after_mark(text, "^^") {
+    if let Some(iri) = after_prefix(text, "^^") {
         return is_written_type(iri);
     }
-    if let Some(tag) = after_mark(text, "@") {
+    if let Some(tag) = after_prefix(text, "@") {
         return is_tag(tag);
     }
     text.is_empty()

@@ -11,10 +11,8 @@ pub fn split_char(text: &str) -> Option<(char, &str)>
     ensures none { IfNone result (text.now ≡ []) }
 {
     let mut characters = text.chars();
-    match characters.next() {
-        Some(c) => Some((c, characters.as_str())),
-        None => None,
-    }
+    let c = characters.next()?;
+    Some((c, characters.as_str()))
 }
 
 /// Whether this is a letter of ASCII.

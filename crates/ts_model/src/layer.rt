@@ -1,5 +1,6 @@
-ghost use Rattle.std.specs.Prelude.{◌≡◌, ◌≢◌, ℕ, ◌<◌, ◌^◌, IfSome, IfNone};
+ghost use Rattle.std.specs.Prelude.{◌≡◌, ◌≢◌, ℕ, ◌<◌, IfSome, IfNone};
 ghost use Rattle.ts_model.specs.LayerText.{layer_text};
+ghost use Rattle.ts_model.specs.Limits.{number_limit};
 
 /// The number of a layer as 8 lower-case hexadecimal digits.
 pub fn layer_text(number: u32) -> [u8; 8]
@@ -13,7 +14,7 @@ pub fn layer_text(number: u32) -> [u8; 8]
 /// The number whose text this is, and `None` exactly where the bytes are not 8 lower-case hexadecimal digits.
 pub fn layer_number(bytes: &[u8]) -> Option<u32>
     ensures value { IfSome result (λ n. layer_text n ≡ bytes.now) }
-    ensures none { IfNone result ((n : ℕ) → n < 2 ^ 32 → layer_text n ≢ bytes.now) }
+    ensures none { IfNone result ((n : ℕ) → n < number_limit → layer_text n ≢ bytes.now) }
 {
     let mut bytes_of = [0; 4];
     if hex::decode_to_slice(bytes, &mut bytes_of).is_err() {

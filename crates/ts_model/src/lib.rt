@@ -1,26 +1,27 @@
 //! The model of a store: terms, triples, bodies, names and layer numbers, without a file.
 //!
-//! A [`Term`] is a kind and its canonical spelling, as [`is_canonical`] decides it; a [`Triple`] is three of them, in the
-//! order of their bytes; a [`Pattern`] takes some triples. [`split_char`], [`after_label`] and [`after_tag`] read the front of
-//! a text. A body is a list of [`SignedTriple`], and [`net_additions`] is
-//! what it adds to a new base, of which [`totals_of`] counts the terms. [`LabelName`], [`CursorName`] and [`layer_text`]
-//! name what a store has.
+//! A [`Term`] is a kind and its canonical spelling, as [`is_canonical`] decides it; a [`Triple`] is three of them, and
+//! both are ordered by their bytes; a [`Pattern`] takes some triples. [`split_char`], [`after_label`] and [`after_tag`]
+//! read the front of a text. A body is a list of [`SignedTriple`], and [`net_additions`] is what it adds to a new base, of which [`totals_of`]
+//! counts the terms. [`LabelName`] and [`CursorName`] are the names of labels and of cursors, and [`layer_text`] writes a
+//! layer's number.
 //!
 //! In contracts a term is its kind and its spelling, a triple is three such terms, and a set of triples has one rising
 //! list of members. The layer above uses that `net_additions` gives exactly the members of the set that the body adds:
-//! of the lines that name a triple, the last one decides.
+//! of the lines of a triple, the last one decides.
 #![tactic(auto)]
 
 pub use canonical::is_canonical;
 pub use characters::{is_direct_in_iri, split_char};
+pub use cursor_name::CursorName;
 pub use label::after_label;
+pub use label_name::LabelName;
 pub use layer::{layer_number, layer_text};
-pub use names::{CursorName, LabelName};
 pub use net::net_additions;
 pub use pattern::Pattern;
 pub use signed::{Sign, SignedTriple};
 pub use tag::after_tag;
-pub use term::{Term, TermError, TermKind};
+pub use term::{TERM_LIMIT, Term, TermError, TermKind};
 pub use totals::{Totals, totals_of};
 pub use triple::Triple;
 
@@ -28,12 +29,13 @@ mod canonical;
 mod canonical_iri;
 mod canonical_label;
 mod canonical_literal;
-mod canonical_mark;
+mod prefix;
 mod canonical_tag;
 mod characters;
+mod cursor_name;
 mod label;
+mod label_name;
 mod layer;
-mod names;
 mod net;
 mod pattern;
 mod signed;

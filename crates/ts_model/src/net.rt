@@ -1,7 +1,8 @@
 // The net additions of a body.
-ghost use Rattle.std.specs.Prelude.{◌≡◌, IfOk, reverse, map, filter, Some};
+ghost use Rattle.std.specs.Prelude.{◌≡◌, All, IfOk, reverse, map, filter, Some};
 ghost use Rattle.ts_model.specs.NetChange.{added, is_added};
 ghost use Rattle.ts_model.specs.Sets.{members};
+ghost use Rattle.ts_model.specs.TextTriple.{IsTriple};
 
 use crate::signed::{Sign, SignedTriple};
 use crate::triple::Triple;
@@ -10,7 +11,8 @@ use std::alloc::{AllocError, Global};
 /// The net additions of the body of a base layer: the triples whose last line adds them, each once and rising. Lines are
 /// sorted by reference, and only the triples that are added are copied.
 pub fn net_additions(alloc: Global, body: &[SignedTriple]) -> Result<Vec<Triple>, AllocError>
-    ensures { IfOk result (λ additions. additions.items ≡ members (added body.now)) }
+    ensures members { IfOk result (λ additions. additions.items ≡ members (added body.now)) }
+    ensures triples { IfOk result (λ additions. All IsTriple additions.items) }
 {
     let mut lines = last_line_first(alloc, body)?;
     lines.sort_by(|a, b| a.triple.cmp(&b.triple))?;
@@ -25,8 +27,9 @@ fn last_line_first(alloc: Global, body: &[SignedTriple]) -> Result<Vec<&SignedTr
 }
 
 fn triples_added(alloc: Global, lines: &[&SignedTriple]) -> Result<Vec<Triple>, AllocError>
-    ensures { IfOk result (λ triples.
+    ensures added { IfOk result (λ triples.
         triples.items ≡ map (λ line. line.now.triple) (filter (λ line. is_added (Some line.now.sign)) lines.now)) }
+    ensures triples { IfOk result (λ triples. All IsTriple triples.items) }
 {
     let mut triples = Vec::new(alloc);
     for line in lines {

@@ -31,8 +31,8 @@ fn after_other_part(text: &str) -> Option<&str>
     ensures { MatchOption result ((part rest : List ℕ) → IsNextPart part → chars text.now ≢ 0x2D ∷ part ++ rest)
         (λ rest. (behind part : List ℕ) × (chars text.now ≡ 0x2D ∷ behind) × IsLongest IsNextPart behind part (chars rest.now)) }
 {
-    let (mark, part) = split_char(text)?;
-    if mark == '-' {
+    let (hyphen, part) = split_char(text)?;
+    if hyphen == '-' {
         after_next_part(part)
     } else {
         None

@@ -1,10 +1,15 @@
 ghost use Rattle.std.specs.Prelude.{◌≡◌, ◌≤◌, length, vec_len, IfOk};
 ghost use Rattle.ts_model.specs.Canonical.{IsCanonical};
+ghost use Rattle.ts_model.specs.Limits.{term_limit};
+ghost use Rattle.ts_model.specs.TextTerm.{IsTerm};
 
 use std::alloc::{AllocError, Global};
 use std::cmp::Ordering;
 use std::marker::Model;
 use thiserror::Error;
+
+/// The most bytes of a term's spelling.
+pub const TERM_LIMIT: usize = 1_048_576;
 
 /// What a term is: a node (an IRI or a blank label), a predicate (an IRI) or a value (a literal).
 #[derive(Clone, Copy, PartialEq, Eq, PartialOrd, Ord, Debug)]
@@ -17,7 +22,7 @@ pub enum TermKind {
 /// Why bytes are no term.
 #[derive(Debug, Drop, Error)]
 pub enum TermError {
-    /// More than 1,048,576 bytes.
+    /// More than [`TERM_LIMIT`] bytes.
     #[error("the term has more than 1048576 bytes")]
     TooLong,
     /// Within the limit, and no canonical spelling of that kind.
@@ -27,7 +32,7 @@ pub enum TermError {
     Memory,
 }
 
-/// A term: its kind and its canonical spelling, of at most 1,048,576 bytes.
+/// A term: its kind and its canonical spelling, of at most [`TERM_LIMIT`] bytes.
 #[derive(Debug, Drop)]
 pub struct Term {
     kind: TermKind,
@@ -48,7 +53,7 @@ impl Term {
     /// The term of a spelling that is known to be canonical.
     pub fn of_canonical(spelling: Vec<u8>, kind: TermKind) -> Term
         requires canonical { IsCanonical kind spelling.items }
-        requires within { vec_len spelling ≤ 1048576 }
+        requires within { vec_len spelling ≤ term_limit }
         ensures { result ≡ record { kind = kind; spelling = spelling.items } }
     {
         Term { kind, spelling }
@@ -60,11 +65,11 @@ impl Term {
         self.kind
     }
 
-    /// The spelling, of at most 1,048,576 bytes.
+    /// The spelling, of at most [`TERM_LIMIT`] bytes.
     pub fn spelling(&self) -> &[u8]
         ensures spelling { result.now ≡ self.now.spelling }
         ensures canonical { IsCanonical self.now.kind result.now }
-        ensures within { length result.now ≤ 1048576 }
+        ensures within { length result.now ≤ term_limit }
     {
         self.spelling.as_slice()
     }

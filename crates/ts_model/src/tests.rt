@@ -89,6 +89,7 @@ fn spellings(rt: HostRuntime) {
     assert!(rt; !is_canonical(b"<a\\u0041>", TermKind::Node));
     assert!(rt; !is_canonical(b"<a\\u003e>", TermKind::Node), "lower case");
     assert!(rt; is_canonical(b"_:b.c", TermKind::Node));
+    assert!(rt; !is_canonical(b"_:b", TermKind::Predicate));
     assert!(rt; !is_canonical(b"_:b.", TermKind::Node));
     assert!(rt; is_canonical("\"é\\n\"".as_bytes(), TermKind::Value));
     assert!(rt; !is_canonical(&[0xFF], TermKind::Node));
@@ -128,7 +129,8 @@ fn terms_of_spellings(rt: HostRuntime) -> Result<(), Fail> {
 fn longest_terms(rt: HostRuntime) -> Result<(), Fail> {
     let alloc = rt.alloc();
     let most = long_iri(alloc, 1_048_574)?;
-    assert!(rt; Term::of_spelling(alloc, most.as_slice(), TermKind::Node).is_ok());
+    let term = Term::of_spelling(alloc, most.as_slice(), TermKind::Node)?;
+    assert!(rt; term.copy(alloc)? == term);
     let more = long_iri(alloc, 1_048_575)?;
     let refused = Term::of_spelling(alloc, more.as_slice(), TermKind::Node);
     assert!(rt; matches!(refused, Err(TermError::TooLong)));

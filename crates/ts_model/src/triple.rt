@@ -1,5 +1,5 @@
 ghost use Rattle.std.specs.Prelude.{◌≡◌, IfOk};
-ghost use Rattle.ts_model.specs.TextTriple.{HasKinds};
+ghost use Rattle.ts_model.specs.TextTriple.{HasKinds, IsTriple};
 
 use crate::term::Term;
 use std::alloc::{AllocError, Global};
@@ -15,13 +15,13 @@ pub struct Triple {
 }
 
 impl Model for Triple {
-    ghost use Rattle.ts_model.specs.TextTriple.{TextTriple, HasKinds};
+    ghost use Rattle.ts_model.specs.TextTriple.{TextTriple, IsTriple};
 
     ghost Value = { TextTriple };
 
     ghost view = { λ t. record { subject = t.subject; predicate = t.predicate; object = t.object } };
 
-    ghost invariant = { λ t. HasKinds t.subject t.predicate t.object };
+    ghost invariant = { λ t. IsTriple (record { subject = t.subject; predicate = t.predicate; object = t.object }) };
 }
 
 impl Triple {
@@ -30,6 +30,10 @@ impl Triple {
         requires { HasKinds subject predicate object }
         ensures { result ≡ record { subject = subject; predicate = predicate; object = object } }
     {
+        // What a term keeps of its spelling is known once the spelling is read.
+        let _subject = subject.spelling();
+        let _predicate = predicate.spelling();
+        let _object = object.spelling();
         Triple {
             subject,
             predicate,
@@ -39,28 +43,29 @@ impl Triple {
 
     pub fn subject(&self) -> &Term
         ensures subject { result.now ≡ self.now.subject }
-        ensures kinds { HasKinds self.now.subject self.now.predicate self.now.object }
+        ensures is_triple { IsTriple self.now }
     {
         &self.subject
     }
 
     pub fn predicate(&self) -> &Term
         ensures predicate { result.now ≡ self.now.predicate }
-        ensures kinds { HasKinds self.now.subject self.now.predicate self.now.object }
+        ensures is_triple { IsTriple self.now }
     {
         &self.predicate
     }
 
     pub fn object(&self) -> &Term
         ensures object { result.now ≡ self.now.object }
-        ensures kinds { HasKinds self.now.subject self.now.predicate self.now.object }
+        ensures is_triple { IsTriple self.now }
     {
         &self.object
     }
 
     /// An equal triple.
     pub fn copy(&self, alloc: Global) -> Result<Triple, AllocError>
-        ensures { IfOk result (λ triple. triple ≡ self.now) }
+        ensures same { IfOk result (λ triple. triple ≡ self.now) }
+        ensures is_triple { IsTriple self.now }
     {
         Ok(Triple {
             subject: self.subject.copy(alloc)?,

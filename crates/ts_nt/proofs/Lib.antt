@@ -5,12 +5,12 @@ mod HexDigits
 mod ItemLaws
 pub mod LineLaws
 pub mod LiteralLaws
-pub mod MarkedFronts
-pub mod MarkedLaws
+pub mod VerbatimFronts
+pub mod VerbatimLaws
 pub mod NodeLaws
 pub mod PrintLaws
 pub mod Printing
-pub mod QuotedLaws
+pub mod DelimitedLaws
 mod ReadsLaws
 pub mod ScalarLaws
 pub mod Seams

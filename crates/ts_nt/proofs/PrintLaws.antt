@@ -8,8 +8,10 @@ use Rattle.ts_model.specs.declared.term.TermKind.TheVariants.{Node, Predicate, V
 use Rattle.ts_model.specs.declared.signed.Sign.TheVariants.{Add}
 use Rattle.ts_model.specs.Canonical.{IsCanonical}
 use Rattle.ts_model.specs.TextTriple.{TextTriple, HasKinds}
+use Rattle.ts_model.specs.Limits.{term_limit}
 use Rattle.ts_model.specs.TextTerm.{TextTerm, IsTerm}
 use Rattle.ts_nt.specs.LineRead.{IsReadAs, IsWithinLimits}
+use Rattle.ts_nt.specs.Limits.{line_limit}
 use Rattle.ts_nt.specs.Terms.{TermAt}
 use Rattle.ts_nt.specs.TripleLine.{triple_line}
 use Rattle.ts_nt.specs.TripleText.{after_blanks, IsTripleText}
@@ -97,16 +99,16 @@ module _ (triple : TextTriple) (kinds : HasKinds triple.subject triple.predicate
   pub printed_reads_as : IsWithinLimits triple → IsReadAs (printed_line triple) (record { sign = Add; triple = triple })
   unfolding printed_line
   printed_reads_as within =
-      let long : length (printed_line triple) ≤ 4194304 = simp length-append (omega (arith, within.0, within.1, within.2)) in (
+      let long : length (printed_line triple) ≤ line_limit = simp length-append (omega (arith, within.0, within.1, within.2)) in (
         long,
         (written_utf8 printed_text (printed_line triple) printed_scalars printed_bytes, subst (λ t. IsTripleText t Add triple) (sym (written_chars printed_text (printed_line triple) printed_scalars printed_bytes)) printed_reads),
         within,
       )
 
 -- what is known of a term, where it was read
-pub term_of_bytes : (read term : TextTerm) (bytes : List ℕ) → read ≡ term → bytes ≡ read.spelling → IsCanonical read.kind bytes → length bytes ≤ 1048576 → IsTerm term
+pub term_of_bytes : (read term : TextTerm) (bytes : List ℕ) → read ≡ term → bytes ≡ read.spelling → IsCanonical read.kind bytes → length bytes ≤ term_limit → IsTerm term
 term_of_bytes read term bytes same spelled canonical within =
-    subst (λ t. IsTerm t) same (subst (λ b. IsCanonical read.kind b) spelled canonical, subst (λ b. length b ≤ 1048576) spelled within)
+    subst (λ t. IsTerm t) same (subst (λ b. IsCanonical read.kind b) spelled canonical, subst (λ b. length b ≤ term_limit) spelled within)
 
 -- the bytes that are written are those of a line that reads back
 pub reads_back : (triple : TextTriple) (old new : List ℕ) → HasKinds triple.subject triple.predicate triple.object → IsTerm triple.subject → IsTerm triple.predicate → IsTerm triple.object

@@ -80,8 +80,8 @@ module _ (item : List ℕ → Option (ℕ × List ℕ)) where
     -- where the items end without the closing mark there is none
     pub none_between : (text inside middle characters : List ℕ) → text ≡ begin ∷ inside → Reads item inside characters middle → item middle ≡ None → ((rest : List ℕ) → middle ≢ close ∷ rest)
         → (inside' other rest : List ℕ) → text ≡ begin ∷ inside' → Reads item inside' other (close ∷ rest) → ⊥
-    none_between text inside middle characters begins reads stops unmarked inside' other rest begins' reads' =
+    none_between text inside middle characters begins reads stops undelimited inside' other rest begins' reads' =
         let same : inside' ≡ inside = cc (begins, begins') in
         let moved : Reads item inside other (close ∷ rest) = subst (λ (l : List ℕ). Reads item l other (close ∷ rest)) same reads' in
         let once = reads_once inside characters other middle (close ∷ rest) reads moved stops (ends rest) in
-        unmarked rest once.1
+        undelimited rest once.1

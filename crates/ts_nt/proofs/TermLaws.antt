@@ -12,10 +12,10 @@ use Rattle.ts_model.specs.Canonical.{IsCanonical}
 use Rattle.ts_model.specs.Iri.{IsIri, iri_spelling}
 use Rattle.ts_model.specs.Literal.{IsLiteral, IsEnding, IsTypeEnding, string_spelling, string_type}
 use Rattle.ts_nt.specs.Terms.{IsIriRef, IriAt, LabelAt, StringAt, TypeAt, TagAt, EndingAt, LiteralAt, TermAt, type_ending, begins_ending}
-use Rattle.ts_nt.proofs.MarkedLaws.{label_once, label_canonical, label_prints, tag_once, tag_canonical, tag_prints}
+use Rattle.ts_nt.proofs.VerbatimLaws.{label_once, label_canonical, label_prints, tag_once, tag_canonical, tag_prints}
 use Rattle.ts_nt.proofs.Printing.{Prints, PrintsBeforeSpace}
 use Rattle.ts_nt.proofs.ScalarLaws.{All-from_scalars}
-use Rattle.ts_nt.proofs.QuotedLaws.{iri_ref_once, iri_ref_scalars, iri_ref_prints, string_once, string_scalars, string_prints}
+use Rattle.ts_nt.proofs.DelimitedLaws.{iri_ref_once, iri_ref_scalars, iri_ref_prints, string_once, string_scalars, string_prints}
 
 -- ---- first characters
 

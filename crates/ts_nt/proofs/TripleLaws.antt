@@ -1,11 +1,12 @@
 -- The text of a triple: there is one reading, its terms are canonical, and what is printed reads back.
-use Rattle.std.proofs.Common.{◌≡◌, ◌⊎◌, inl, inr, ℕ, ◌+◌, true, false, cond, ◌==◌, List, [], ◌∷◌, length, All, refl, sym, ap, subst, ◌∙◌, arith}
+use Rattle.std.proofs.Common.{◌≡◌, ◌⊎◌, inl, inr, ℕ, ◌+◌, true, false, cond, ◌==◌, List, [], ◌∷◌, chars, length, All, refl, sym, ap, subst, ◌∙◌, arith}
 use Rattle.std.specs.Char.{IsScalar}
 use Rattle.ts_model.specs.declared.term.TermKind.{TermKind}
 use Rattle.ts_model.specs.declared.term.TermKind.TheVariants.{Node, Predicate, Value}
 use Rattle.ts_model.specs.declared.signed.Sign.{Sign}
 use Rattle.ts_model.specs.Canonical.{IsCanonical}
 use Rattle.ts_model.specs.TextTriple.{TextTriple}
+use Rattle.ts_nt.specs.LineRead.{SpellsTerm}
 use Rattle.ts_nt.specs.Parts.{sign_at, object_kind, IsEnd, IsNoTriple}
 use Rattle.ts_nt.specs.Terms.{TermAt}
 use Rattle.ts_nt.specs.TripleText.{after_blanks, SignAt, IsNothingOrComment, IsTripleText}
@@ -155,6 +156,13 @@ term_stands kind rest front spelling more blanks = subst (λ f. TermAt kind f sp
 
 pub kinds_stand : (kind : TermKind) (front : List ℕ) → kind ≡ object_kind front → (kind ≡ Node) ⊎ (kind ≡ Value)
 kinds_stand kind front kinds = subst (λ k. (k ≡ Node) ⊎ (k ≡ Value)) (sym kinds) (object_kinds front)
+
+-- the kind of an object that spells a term as a whole
+pub node_kind : (bytes : List ℕ) (kind : TermKind) → kind ≡ object_kind (chars bytes) → (spelling : List ℕ) → SpellsTerm bytes Node spelling → kind ≡ Node
+node_kind bytes kind is spelling spells = is ∙ sym (kind_once Node (chars bytes) spelling [] (inl refl) spells.1)
+
+pub value_kind : (bytes : List ℕ) (kind : TermKind) → kind ≡ object_kind (chars bytes) → (spelling : List ℕ) → SpellsTerm bytes Value spelling → kind ≡ Value
+value_kind bytes kind is spelling spells = is ∙ sym (kind_once Value (chars bytes) spelling [] (inr refl) spells.1)
 
 -- ---- a text of nothing
 

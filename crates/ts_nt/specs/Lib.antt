@@ -1,4 +1,5 @@
 pub mod Items
+pub mod Limits
 pub mod LineRead
 pub mod Parts
 pub mod Reading

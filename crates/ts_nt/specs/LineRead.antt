@@ -3,7 +3,9 @@ use Rattle.std.specs.Prelude.{◌⊎◌, ℕ, ◌<◌, ◌≤◌, List, [], leng
 use Rattle.ts_model.specs.declared.term.TermKind.{TermKind}
 use Rattle.ts_model.specs.declared.signed.Sign.{Sign}
 use Rattle.ts_model.specs.declared.signed.SignedTriple.{SignedTriple}
+use Rattle.ts_model.specs.Limits.{term_limit}
 use Rattle.ts_model.specs.TextTriple.{TextTriple}
+use Rattle.ts_nt.specs.Limits.{line_limit}
 use Rattle.ts_nt.specs.Terms.{TermAt}
 use Rattle.ts_nt.specs.TripleText.{IsTripleText, IsNothingOrComment, after_blanks}
 use Rattle.ts_nt.specs.declared.read.LineError.{LineError}
@@ -17,32 +19,32 @@ Spells line sign triple = IsUtf8 line × IsTripleText (chars line) sign triple
 abbrev pub IsSilent : List ℕ → Type 0
 IsSilent line = IsUtf8 line × IsNothingOrComment (after_blanks (chars line))
 
--- no term has more than 1,048,576 bytes
+-- each term is within its limit
 abbrev pub IsWithinLimits : TextTriple → Type 0
 IsWithinLimits triple =
-    (length triple.subject.spelling ≤ 1048576) × (length triple.predicate.spelling ≤ 1048576) × (length triple.object.spelling ≤ 1048576)
+    (length triple.subject.spelling ≤ term_limit) × (length triple.predicate.spelling ≤ term_limit) × (length triple.object.spelling ≤ term_limit)
 
 -- the line and its terms are within their limits, and it is a line of this triple
 abbrev pub IsReadAs : List ℕ → SignedTriple → Type 0
-IsReadAs line signed = (length line ≤ 4194304) × Spells line signed.sign signed.triple × IsWithinLimits signed.triple
+IsReadAs line signed = (length line ≤ line_limit) × Spells line signed.sign signed.triple × IsWithinLimits signed.triple
 
 -- the line is over its limit, or is a line of a triple with a term over its own
 abbrev pub IsTooLong : List ℕ → Type 0
-IsTooLong line = (4194304 < length line) ⊎ ((sign : Sign) × (triple : TextTriple) × Spells line sign triple × (IsWithinLimits triple → ⊥))
+IsTooLong line = (line_limit < length line) ⊎ ((sign : Sign) × (triple : TextTriple) × Spells line sign triple × (IsWithinLimits triple → ⊥))
 
 -- the line is within its limit, and neither blank, a comment nor a line of a triple
 abbrev pub IsBad : List ℕ → Type 0
-IsBad line = (length line ≤ 4194304) × (IsSilent line → ⊥) × ((sign : Sign) (triple : TextTriple) → Spells line sign triple → ⊥)
+IsBad line = (length line ≤ line_limit) × (IsSilent line → ⊥) × ((sign : Sign) (triple : TextTriple) → Spells line sign triple → ⊥)
 
--- the causes exclude each other, but for memory, which may run out at any line
+-- The causes exclude each other, but for memory. It runs out only at a line within its limit that is UTF-8, and neither blank nor a comment.
 abbrev pub IsRefusedFor : List ℕ → LineError → Type 0
 IsRefusedFor line TooLong = IsTooLong line
 IsRefusedFor line Bad = IsBad line
-IsRefusedFor line Memory = Unit {0}
+IsRefusedFor line Memory = (length line ≤ line_limit) × IsUtf8 line × (IsSilent line → ⊥)
 
 -- the line is read as nothing, or as a triple
 abbrev pub Answers : List ℕ → Option SignedTriple → Type 0
-Answers line None = (length line ≤ 4194304) × IsSilent line
+Answers line None = (length line ≤ line_limit) × IsSilent line
 Answers line (Some signed) = IsReadAs line signed
 
 -- the whole of the bytes spells this term

@@ -9,10 +9,8 @@ pub fn after_char(text: &str, c: char) -> Option<&str>
     ensures some { IfSome result (λ rest. chars text.now ≡ c ∷ chars rest.now) }
     ensures none { IfNone result ((others : List ℕ) → chars text.now ≢ c ∷ others) }
 {
-    match split_char(text) {
-        Some((first, rest)) => (first == c).then_some(rest),
-        None => None,
-    }
+    let (first, rest) = split_char(text)?;
+    (first == c).then_some(rest)
 }
 
 /// The text after the blanks at its front.

@@ -74,7 +74,7 @@ fn uchar(text: &str) -> Option<(char, &str)>
     }
 }
 
-// The character that so many hexadecimal digits number, and the text after them.
+/// The character that so many hexadecimal digits number, and the text after them.
 #[tactic(auto, unfolding(crate::specs::Items::numbered))]
 fn numbered(text: &str, count: u32) -> Option<(char, &str)>
     requires { count ≤ 8 }
@@ -85,7 +85,7 @@ fn numbered(text: &str, count: u32) -> Option<(char, &str)>
     Some((c, rest))
 }
 
-// The number that so many hexadecimal digits write, and the text after them.
+/// The number that so many hexadecimal digits write, and the text after them.
 fn hex_digits(text: &str, count: u32) -> Option<(u32, &str)>
     requires { count ≤ 8 }
     ensures { let text = chars text.now in

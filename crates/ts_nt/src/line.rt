@@ -1,5 +1,6 @@
 // The text of a line: a triple with its sign, or nothing.
-ghost use Rattle.std.specs.Prelude.{◌≡◌, ◌↔◌, IsTrue, chars, IfOk, IfSome, IfNone};
+ghost use Rattle.std.specs.Prelude.{◌≡◌, ◌↔◌, ◌⊎◌, ℕ, List, IsTrue, chars, IfOk, IfSome, IfNone};
+ghost use Rattle.ts_nt.specs.LineRead.{SpellsTerm};
 ghost use Rattle.ts_nt.specs.Parts.{object_kind as kind_of_object, sign_at, IsEnd, IsNoTriple, triple_of};
 ghost use Rattle.ts_nt.specs.TripleText.{IsNothingOrComment, IsTripleText};
 
@@ -72,9 +73,12 @@ fn split_sign(text: &str) -> (Sign, &str)
     }
 }
 
-/// What an object at the front of a text can be.
-fn object_kind(text: &str) -> TermKind
-    ensures { result ≡ kind_of_object (chars text.now) }
+/// What an object at the front of a text can be: a value where it begins with `"`, and a node elsewhere.
+pub fn object_kind(text: &str) -> TermKind
+    ensures is { result ≡ kind_of_object (chars text.now) }
+    ensures kind { (result ≡ TermKind.Node) ⊎ (result ≡ TermKind.Value) }
+    ensures node { (spelling : List ℕ) → SpellsTerm text.now TermKind.Node spelling → result ≡ TermKind.Node }
+    ensures value { (spelling : List ℕ) → SpellsTerm text.now TermKind.Value spelling → result ≡ TermKind.Value }
 {
     match after_char(text, '"') {
         Some(_) => TermKind::Value,

@@ -2,6 +2,7 @@ ghost use Rattle.std.specs.Prelude.{◌≡◌, ◌≢◌, ◌≤◌, length, IfO
 ghost use Rattle.ts_model.specs.declared.signed.Sign.{Sign};
 ghost use Rattle.ts_model.specs.Canonical.{IsCanonical};
 ghost use Rattle.ts_nt.specs.Parts.{triple_of as triple_of_parts};
+ghost use Rattle.ts_model.specs.Limits.{term_limit};
 ghost use Rattle.ts_model.specs.TextTriple.{TextTriple};
 ghost use Rattle.ts_nt.specs.LineRead.{Answers, IsRefusedFor, IsSilent, IsWithinLimits, Spells, SpellsTerm};
 
@@ -11,23 +12,21 @@ use crate::term::read_term_at;
 use std::alloc::{AllocError, Global};
 use std::str;
 use thiserror::Error;
-use ts_model::{Sign, SignedTriple, Term, TermKind, Triple};
+use ts_model::{Sign, SignedTriple, TERM_LIMIT, Term, TermKind, Triple};
 
-/// The most bytes of a line.
-const LINE_LIMIT: usize = 4_194_304;
-
-/// The most bytes of a term.
-const TERM_LIMIT: usize = 1_048_576;
+/// The most bytes of a line, without its end.
+pub const LINE_LIMIT: usize = 4_194_304;
 
 /// Why a line gives no triple.
 #[derive(Debug, Drop, Error)]
 pub enum LineError {
-    /// More than 4,194,304 bytes, or a line of a triple with a term of more than 1,048,576 bytes.
+    /// More than [`LINE_LIMIT`] bytes, or a line of a triple with a term of more than [`TERM_LIMIT`] bytes.
     #[error("the line or one of its terms is too long")]
     TooLong,
     /// Within the limit, and neither blank, a comment nor a line of a triple.
     #[error("the line is no triple")]
     Bad,
+    /// Never for a line that is over its limit, isn't UTF-8, or is blank or a comment.
     #[error("out of memory")]
     Memory,
 }
@@ -56,7 +55,7 @@ pub fn read_line(alloc: Global, line: &[u8]) -> Result<Option<SignedTriple>, Lin
     }
 }
 
-/// The triple of parts, and `None` exactly where a term has more than 1,048,576 bytes.
+/// The triple of parts, and `None` exactly where a term is over its limit.
 fn triple_of(parts: Parts) -> Option<SignedTriple>
     requires subject { IsCanonical TermKind.Node parts.subject.items }
     requires predicate { IsCanonical TermKind.Predicate parts.predicate.items }
@@ -88,7 +87,7 @@ fn triple_of(parts: Parts) -> Option<SignedTriple>
 /// exactly where they spell none.
 pub fn read_term(alloc: Global, bytes: &[u8], kind: TermKind) -> Result<Option<Term>, AllocError>
     ensures some { IfOk result (λ term. IfSome term (λ term. (term.kind ≡ kind) × SpellsTerm bytes.now kind term.spelling)) }
-    ensures none { IfOk result (λ term. IfNone term ((spelling : List ℕ) → SpellsTerm bytes.now kind spelling → length spelling ≤ 1048576 → ⊥)) }
+    ensures none { IfOk result (λ term. IfNone term ((spelling : List ℕ) → SpellsTerm bytes.now kind spelling → length spelling ≤ term_limit → ⊥)) }
 {
     let Ok(text) = str::from_utf8(bytes) else {
         return Ok(None);

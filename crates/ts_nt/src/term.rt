@@ -6,8 +6,8 @@ ghost use Rattle.ts_nt.specs.Reading.{Finds};
 ghost use Rattle.ts_nt.specs.Terms.{EndingAt, LiteralAt, TermAt, TypeAt, type_ending};
 
 use crate::front::after_char;
-use crate::marked::{read_label, read_tag};
-use crate::quoted::{read_iri, read_string};
+use crate::verbatim::{read_label, read_tag};
+use crate::delimited::{read_iri, read_string};
 use std::alloc::{AllocError, Global};
 use ts_model::TermKind;
 
@@ -103,7 +103,7 @@ fn append_type<'a>(text: &'a str, into: &mut String) -> Result<Option<&'a str>, 
     }
 }
 
-/// Takes the type that begins at `start` away where it is the type of strings.
+/// Drops the type that begins at `start` where it is the type of strings.
 fn drop_string_type(into: &mut String, start: usize)
     requires { IsSplitPoint (string_bytes into.old) start }
     ensures { (front iri : List ℕ) → string_bytes into.old ≡ front ++ 0x5E ∷ 0x5E ∷ iri → length front ≡ start → string_bytes into.new ≡ front ++ type_ending iri }

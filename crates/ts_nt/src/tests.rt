@@ -293,11 +293,15 @@ fn bytes_that_are_no_text_are_bad(rt: HostRuntime) -> Result<(), Fail> {
     Ok(())
 }
 
-/// `<`, so many letters, `>`, and the rest of a line.
-fn long_line(alloc: Global, letters: usize, rest: &[u8]) -> Result<Vec<u8>, AllocError> {
-    let mut line = Vec::new(alloc);
-    line.push(b'<')?;
-    line.resize(letters, b'a')?;
+/// The front of a line with letters up to so many bytes, and the rest of the line.
+fn long_line(
+    alloc: Global,
+    front: &[u8],
+    length: usize,
+    rest: &[u8],
+) -> Result<Vec<u8>, AllocError> {
+    let mut line = Vec::from_slice(alloc, front)?;
+    line.resize(length, b'a')?;
     line.extend_from_slice(rest)?;
     Ok(line)
 }
@@ -320,20 +324,33 @@ fn limits(rt: HostRuntime) -> Result<(), Fail> {
         shown(alloc, noise.as_slice())?.as_slice(),
         b"too long".as_slice()
     );
-
-    // a term of 1,048,576 bytes, of one more, and of one more in a line with another fault
-    let line = long_line(alloc, 1_048_575, b"> <p> <b> .")?;
-    assert_eq!(rt; shown(alloc, line.as_slice())?.len(), 1_048_576 + 12);
-    let line = long_line(alloc, 1_048_576, b"> <p> <b> .")?;
-    assert_eq!(rt;
-        shown(alloc, line.as_slice())?.as_slice(),
-        b"too long".as_slice()
-    );
-    let line = long_line(alloc, 1_048_576, b"> <p> <b>")?;
+    // a term over its limit, in a line with another fault
+    let line = long_line(alloc, b"<", 1_048_576, b"> <p> <b>")?;
     assert_eq!(rt;
         shown(alloc, line.as_slice())?.as_slice(),
         b"bad".as_slice()
     );
+    Ok(())
+}
+
+#[test]
+fn terms_at_their_limit(rt: HostRuntime) -> Result<(), Fail> {
+    let alloc = rt.alloc();
+    // each a line with one term of 1,048,576 bytes, which is printed with its sign and a line feed
+    let lines = [
+        (b"<".as_slice(), 1_048_575, b"> <p> <b> .".as_slice()),
+        (b"<a> <", 1_048_579, b"> <b> ."),
+        (b"<a> <p> <", 1_048_583, b"> ."),
+    ];
+    for (front, length, rest) in lines {
+        let line = long_line(alloc, front, length, rest)?;
+        assert_eq!(rt; shown(alloc, line.as_slice())?.len(), 1_048_576 + 12);
+        let line = long_line(alloc, front, length + 1, rest)?;
+        assert_eq!(rt;
+            shown(alloc, line.as_slice())?.as_slice(),
+            b"too long".as_slice()
+        );
+    }
     Ok(())
 }
 
@@ -367,7 +384,7 @@ fn terms_of_each_kind(rt: HostRuntime) -> Result<(), Fail> {
     }
     let noise = term(rt.alloc(), b"\"\xff\"", TermKind::Value)?;
     assert_eq!(rt; noise.as_slice(), b"none".as_slice());
-    let long = long_line(rt.alloc(), 1_048_576, b">")?;
+    let long = long_line(rt.alloc(), b"<", 1_048_576, b">")?;
     let seen = term(rt.alloc(), long.as_slice(), TermKind::Node)?;
     assert_eq!(rt; seen.as_slice(), b"none".as_slice());
     Ok(())

@@ -1,6 +1,5 @@
 -- The words of a command, and what a word spells.
 use Rattle.std.proofs.Common.{◌≡◌, ◌⊎◌, inl, inr, ℕ, ◌<◌, ◌≤◌, List, [], ◌∷◌, length, get_or, map, sym, ap, ◌∙◌, subst, arith}
-use Rattle.std.specs.Str.{chars}
 use Rattle.ts_model.specs.declared.term.TermKind.{TermKind}
 use Rattle.ts_model.specs.declared.term.TermKind.TheVariants.{Node, Value}
 use Rattle.ts_model.specs.TextTerm.{TextTerm}
@@ -14,15 +13,6 @@ kind_of-object word kind term node value (inl is) spells =
     is ∙ sym (node term.spelling (subst (λ (k : TermKind). SpellsTerm word k term.spelling) is spells.0))
 kind_of-object word kind term node value (inr is) spells =
     is ∙ sym (value term.spelling (subst (λ (k : TermKind). SpellsTerm word k term.spelling) is spells.0))
-
--- a word that spells a value begins with `"`
-pub value-begins : (word spelling : List ℕ) → SpellsTerm word Value spelling → (inside : List ℕ) × (chars word ≡ 0x22 ∷ inside)
-value-begins word spelling spells = (spells.1.3.1.inside, spells.1.3.1.begins)
-
--- no character is left of nothing
-pub chars-none : (word : List ℕ) → word ≡ [] → chars word ≡ []
-unfolding chars
-chars-none word none = ap chars none
 
 -- five words, written out
 pub five_words : {A : Type 0} (f : A → List ℕ) (words : List A) (a b c d e : A) → 5 ≤ length words → length words < 6

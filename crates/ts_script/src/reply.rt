@@ -1,12 +1,13 @@
 // What is told of a command, a line each.
-ghost use Rattle.std.specs.Prelude.{◌≡◌, ◌+◌, ◌≤◌, ◌++◌, ◌∷◌, [], List, ℕ, length, take, decimal};
+ghost use Rattle.std.specs.Prelude.{◌≡◌, ◌+◌, ◌≤◌, ◌++◌, ◌∷◌, [], length, decimal};
 ghost use Rattle.ts_script.specs.Replies.{reply_text, refusal_text};
 
 use crate::LayerRef;
 use itoa::Buffer;
-use std::marker::Model;
 use ts_model::layer_text;
+use ts_text::FixedText;
 
+/// The most bytes of a line, its end among them.
 const ROOM: usize = 256;
 
 /// What is told where a command is done.
@@ -33,51 +34,8 @@ pub enum Refusal {
     Full,
 }
 
-/// A line of a reply with its end, of at most 256 bytes.
-#[derive(Drop)]
-pub struct ReplyLine {
-    room: [u8; ROOM],
-    len: usize,
-}
-
-impl Model for ReplyLine {
-    ghost Value = { List ℕ };
-
-    ghost view = { λ line. take line.len line.room };
-
-    ghost invariant = { λ line. line.len ≤ 256 };
-}
-
-impl ReplyLine {
-    /// The bytes of the line, its end among them.
-    pub fn bytes(&self) -> &[u8]
-        ensures { result.now ≡ self.now }
-    {
-        &self.room[..self.len]
-    }
-
-    /// An empty line.
-    pub fn new() -> ReplyLine
-        ensures { result ≡ [] }
-    {
-        ReplyLine {
-            room: [0; ROOM],
-            len: 0,
-        }
-    }
-
-    /// The line with more bytes at its end.
-    pub fn with(mut self, bytes: &[u8]) -> ReplyLine
-        requires { length self + length bytes.now ≤ 256 }
-        ensures { result ≡ self ++ bytes.now }
-    {
-        let start = self.len;
-        let end = start + bytes.len();
-        self.room[start..end].copy_from_slice(bytes);
-        self.len = end;
-        self
-    }
-}
+/// The line of a reply or of a refusal, with its end.
+pub type ReplyLine = FixedText<ROOM>;
 
 /// The line of a reply.
 pub fn reply_line(reply: &Reply) -> ReplyLine

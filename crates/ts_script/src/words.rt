@@ -1,14 +1,13 @@
 // The commands without a body, read from their words.
-ghost use Rattle.std.specs.Prelude.{◌≡◌, ◌⊎◌, ◌∷◌, [], List, ℕ, map, IfOk, IfSome, IfNone, string_bytes};
+ghost use Rattle.std.specs.Prelude.{◌≡◌, ◌∷◌, [], List, map, IfOk, IfSome, IfNone, string_bytes};
 ghost use Rattle.ts_model.specs.TextTriple.{TextTriple, HasKinds};
 ghost use Rattle.ts_model.specs.TextTerm.{TextTerm};
-ghost use Rattle.ts_nt.specs.LineRead.{SpellsTerm};
 ghost use Rattle.ts_script.specs.Words.{AsksFor, IsLayerWord, IsRefWord, IsTermWord};
 
 use crate::{Command, LayerRef, Ref};
 use std::alloc::{AllocError, Global};
-use ts_model::{Pattern, Term, TermKind, Triple, layer_number, split_char};
-use ts_nt::read_term;
+use ts_model::{Pattern, Term, TermKind, Triple, layer_number};
+use ts_nt::{object_kind, read_term};
 
 /// The command without a body that the words are, and None exactly where they are none.
 pub(crate) fn bodiless(alloc: Global, words: &[String]) -> Result<Option<Command>, AllocError>
@@ -119,22 +118,4 @@ fn read_word(alloc: Global, word: &str, kind: TermKind) -> Result<Option<Term>, 
     ensures none { IfOk result (λ read. IfNone read ((term : TextTerm) → term.kind ≡ kind → IsTermWord word.now term → ⊥)) }
 {
     read_term(alloc, word.as_bytes(), kind)
-}
-
-/// What a word can be as an object: a value where it begins with `"`, and a node elsewhere.
-fn object_kind(word: &str) -> TermKind
-    ensures kind { (result ≡ TermKind.Node) ⊎ (result ≡ TermKind.Value) }
-    ensures node { (spelling : List ℕ) → SpellsTerm word.now TermKind.Node spelling → result ≡ TermKind.Node }
-    ensures value { (spelling : List ℕ) → SpellsTerm word.now TermKind.Value spelling → result ≡ TermKind.Value }
-{
-    match split_char(word) {
-        Some((first, _)) => {
-            if first == '"' {
-                TermKind::Value
-            } else {
-                TermKind::Node
-            }
-        }
-        None => TermKind::Node,
-    }
 }

@@ -1,5 +1,5 @@
 -- What a site in memory tells, and the faults that are planned for it.
-use Rattle.std.specs.Prelude.{◌≡◌, ℕ, ◌-◌, ◌==◌, ◌&&◌, ◌/◌, Bool, true, List, [], ◌++◌, take, length, reverse, find, Option, None, Some, Result, Err, MatchBool, if◌then◌else◌}
+use Rattle.std.specs.Prelude.{◌≡◌, ℕ, ◌-◌, ◌==◌, ◌&&◌, ◌/◌, Bool, true, false, List, [], ◌++◌, take, length, reverse, find, Option, None, Some, Result, Err, MatchBool, if◌then◌else◌}
 use Rattle.ts_site.specs.declared.disk.Failed.{Failed}
 use Rattle.ts_site.specs.declared.call.Call.{Call}
 use Rattle.ts_site.specs.declared.memory_site.MemorySite.{MemorySite}
@@ -11,7 +11,7 @@ use Rattle.ts_site.specs.declared.plan.Plan.{Plan}
 use Rattle.std.specs.Option.{option_map}
 use Rattle.ts_site.specs.Folder.{Folder}
 use Rattle.ts_site.specs.Outside.{Outside}
-use Rattle.ts_site.specs.Recorder.{MemoryState, memory_state as recorded, memory_calls as calls_of, one_more, has_room, MakesDiskCall, MakesSayCall}
+use Rattle.ts_site.specs.Recorder.{MemoryState, memory_state as recorded, memory_calls as calls_of, one_more, has_room, calls_with, MakesDiskCall, MakesSayCall}
 
 -- the folder, what was said, the room and the counts
 abbrev pub memory_state : MemorySite → MemoryState
@@ -97,3 +97,12 @@ DoesSayCall (Some how) result piece old new =
 abbrev pub state_after_reading : Option FaultKind → MemoryState → MemoryState
 state_after_reading None old = old
 state_after_reading (Some how) old = record old { disk_faults = one_more old.disk_faults }
+
+-- whether a call happens whole: where a fault is planned for it, only where the fault leaves all
+abbrev pub happens_whole : Option FaultKind → Bool
+happens_whole None = true
+happens_whole (Some how) = left_by how true false false
+
+-- the calls after one that uses no bytes: that call is recorded where it happens
+abbrev pub calls_after : Option FaultKind → MemoryState → Call → List Call → List Call
+calls_after plan old call calls = calls_with (has_room old 0 && happens_whole plan) call calls

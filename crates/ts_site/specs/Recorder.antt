@@ -1,7 +1,8 @@
 -- What a recorder of a folder and an output tells.
-use Rattle.std.specs.Prelude.{◌≡◌, ℕ, ◌+◌, ◌-◌, ◌^◌, min, nat_lt, nat_le, ◌&&◌, Bool, List, ◌++◌, Result, Ok, Err, MatchBool}
+use Rattle.std.specs.Prelude.{◌≡◌, ℕ, ◌+◌, ◌-◌, ◌^◌, min, nat_lt, nat_le, ◌&&◌, Bool, if◌then◌else◌, List, [], ◌∷◌, ◌++◌, Result, Ok, Err, MatchBool}
 use Rattle.ts_site.specs.declared.disk.Failed.{Failed}
 use Rattle.ts_site.specs.declared.call.Call.{Call}
+use Rattle.ts_site.specs.declared.call.Call.TheVariants.{Append}
 use Rattle.ts_site.specs.declared.recorder.Recorder.{Recorder}
 use Rattle.ts_site.specs.Folder.{Folder, no_files}
 use Rattle.ts_site.specs.Call.{folder_after, with_files}
@@ -28,6 +29,10 @@ memory_state site = record {
 -- the calls that were made, the first of them first
 abbrev pub memory_calls : Recorder → List Call
 memory_calls site = site.calls.items
+
+-- the calls with one more, where it was made
+abbrev pub calls_with : Bool → Call → List Call → List Call
+calls_with is_made call calls = if is_made then calls ++ call ∷ [] else calls
 
 -- one fault more, in a number of 64 bits
 abbrev pub one_more : ℕ → ℕ
@@ -59,3 +64,8 @@ spoiled (Err failed) made = made
 abbrev pub spoiled_say : Result (Unit {0}) Failed → MemoryState → MemoryState
 spoiled_say (Ok done) made = record made { say_faults = one_more made.say_faults }
 spoiled_say (Err failed) made = made
+
+-- an append to a file is recorded as such, where it was made
+abbrev pub RecordsAppend : Bool → List ℕ → List Call → List Call → Type 0
+RecordsAppend is_made name old new =
+    MatchBool is_made ((start end : ℕ) × (new ≡ old ++ Append (record { name = name; start = start; end = end }) ∷ [])) (new ≡ old)

@@ -1,27 +1,28 @@
 // The name of a file.
-ghost use Rattle.std.specs.Prelude.{◌≡◌, ◌≤◌, ℕ, List, length, take, IfSome, IsSome, IsTrue, ◌↔◌};
+ghost use Rattle.std.specs.Prelude.{◌≡◌, ℕ, List, IfSome, IsSome, IsTrue, ◌↔◌};
 ghost use Rattle.std.specs.Prelude.{nat_eq};
 ghost use Rattle.std.specs.Cmp.{partial_equiv_from_equiv};
 ghost use Rattle.std.specs.Cmp.Lexicographic.{pointwise, nat_list_eq_equiv};
 ghost use Rattle.ts_site.specs.FileName.{IsFileName, IsNameByte};
 
 use std::marker::Model;
+use ts_text::FixedText;
 
-const MAX: usize = 206;
+/// The most bytes of a file's name.
+const ROOM: usize = 206;
 
 /// 1 to 206 bytes from 21 to 7E hexadecimal without `/`. Files of other names are no part of a folder.
 #[derive(Debug, Drop)]
 pub struct FileName {
-    bytes: [u8; MAX],
-    length: usize,
+    text: FixedText<ROOM>,
 }
 
 impl Model for FileName {
     ghost Value = { List ℕ };
 
-    ghost view = { λ name. take name.length name.bytes };
+    ghost view = { λ name. name.text };
 
-    ghost invariant = { λ name. (name.length ≤ 206) × IsFileName (take name.length name.bytes) };
+    ghost invariant = { λ name. IsFileName name.text };
 }
 
 impl FileName {
@@ -33,11 +34,8 @@ impl FileName {
         if !is_file_name(bytes) {
             return None;
         }
-        let mut all = [0; MAX];
-        all[..bytes.len()].copy_from_slice(bytes);
         Some(FileName {
-            bytes: all,
-            length: bytes.len(),
+            text: FixedText::of(bytes),
         })
     }
 
@@ -45,16 +43,15 @@ impl FileName {
         ensures value { result.now ≡ self.now }
         ensures rule { IsFileName self.now }
     {
-        &self.bytes[..self.length]
+        self.text.bytes()
     }
 
-    /// The same name once more.
+    /// An equal name.
     pub fn copy(&self) -> FileName
         ensures { result ≡ self.now }
     {
         FileName {
-            bytes: self.bytes,
-            length: self.length,
+            text: self.text.copy(),
         }
     }
 }
@@ -65,7 +62,7 @@ impl PartialEq for FileName {
     ghost laws = { partial_equiv_from_equiv nat_list_eq_equiv };
 
     fn eq(&self, other: &FileName) -> bool {
-        self.bytes() == other.bytes()
+        self.text == other.text
     }
 }
 
@@ -76,7 +73,7 @@ impl Eq for FileName {
 fn is_file_name(bytes: &[u8]) -> bool
     ensures { IsTrue result ↔ IsFileName bytes.now }
 {
-    !bytes.is_empty() && bytes.len() <= MAX && bytes.iter().all(|byte| is_name_byte(*byte))
+    !bytes.is_empty() && bytes.len() <= ROOM && bytes.iter().all(|byte| is_name_byte(*byte))
 }
 
 fn is_name_byte(byte: u8) -> bool

@@ -19,7 +19,9 @@ pub struct MemorySite {
 }
 
 impl MemorySite {
-    ghost use Rattle.ts_site.specs.MemorySite.{memory_state, memory_calls, plans_of, planned, nearer, state_after_reading, first_half, DoesDiskCall, DoesSayCall};
+    ghost use Rattle.ts_site.specs.declared.call.Call.TheVariants as call;
+    ghost use Rattle.ts_site.specs.MemorySite.{memory_state, memory_calls, plans_of, planned, nearer, state_after_reading, first_half, calls_after, DoesDiskCall, DoesSayCall};
+    ghost use Rattle.ts_site.specs.Recorder.{calls_with, has_room, RecordsAppend};
 
     /// An empty folder without faults to come, with room for this many calls that change the folder, settle it or
     /// say something, and for this many bytes. An append uses as many bytes as its file has with the whole piece
@@ -86,6 +88,7 @@ impl MemorySite {
         ensures fails { MatchOption (planned kind (plans_of self.old)) (result ≡ false) (λ _. result ≡ true) }
         ensures plans { plans_of self.new ≡ map (nearer kind) (plans_of self.old) }
         ensures state { memory_state self.new ≡ state_after_reading (planned kind (plans_of self.old)) (memory_state self.old) }
+        ensures calls { memory_calls self.new ≡ memory_calls self.old }
     {
         match count_call(&mut self.plans, kind) {
             None => false,
@@ -103,6 +106,7 @@ impl MemorySite {
         ensures made { DoesDiskCall (planned kind (plans_of self.old)) result 0
             (happens self.old.recorder.store.items call (memory_state self.old).folder) (memory_state self.old).folder
             (memory_state self.old) (memory_state self.new) }
+        ensures calls { memory_calls self.new ≡ calls_after (planned kind (plans_of self.old)) (memory_state self.old) call (memory_calls self.old) }
     {
         match count_call(&mut self.plans, kind) {
             None => self.recorder.make(call),
@@ -124,6 +128,8 @@ impl MemorySite {
         ensures made { DoesDiskCall (planned CallKind.Append (plans_of self.old)) result (length_at (memory_state self.old).folder name.now + length bytes.now)
             (appended (memory_state self.old).folder name.now bytes.now) (appended (memory_state self.old).folder name.now (first_half bytes.now))
             (memory_state self.old) (memory_state self.new) }
+        ensures calls { RecordsAppend (has_room (memory_state self.old) (length_at (memory_state self.old).folder name.now + length bytes.now)) name.now
+            (memory_calls self.old) (memory_calls self.new) }
     {
         match count_call(&mut self.plans, CallKind::Append) {
             None => self.recorder.append(name, bytes, bytes.len()),
@@ -138,6 +144,7 @@ impl MemorySite {
     fn say_piece(&mut self, piece: &[u8]) -> Result<(), Failed>
         ensures plans { plans_of self.new ≡ map (nearer CallKind.Say) (plans_of self.old) }
         ensures made { DoesSayCall (planned CallKind.Say (plans_of self.old)) result piece.now (memory_state self.old) (memory_state self.new) }
+        ensures calls { memory_calls self.new ≡ calls_with (has_room (memory_state self.old) (length piece.now)) (call.Say (length (memory_state self.new).told)) (memory_calls self.old) }
     {
         match count_call(&mut self.plans, CallKind::Say) {
             None => self.recorder.say(piece, piece.len()),
@@ -161,7 +168,9 @@ fn kept_by(how: FaultKind, len: usize) -> usize
 }
 
 impl Disk for MemorySite {
-    ghost use Rattle.ts_site.specs.MemorySite.{memory_state, outside_of, plans_of, planned, nearer, DoesDiskCall, first_half, state_after_reading};
+    ghost use Rattle.ts_site.specs.declared.call.Call.TheVariants as call;
+    ghost use Rattle.ts_site.specs.MemorySite.{memory_state, memory_calls, outside_of, plans_of, planned, nearer, calls_after, DoesDiskCall, first_half, state_after_reading};
+    ghost use Rattle.ts_site.specs.Recorder.{has_room, RecordsAppend};
     ghost use Rattle.ts_site.specs.declared.disk.ListFail.TheVariants as list_fail;
 
     ghost outside = { outside_of };
@@ -173,6 +182,7 @@ impl Disk for MemorySite {
             (λ _. (result ≡ Err list_fail.Failed) × (into.new.items ≡ into.old.items)) }
         ensures plans { plans_of self.new ≡ map (nearer CallKind.List) (plans_of self.old) }
         ensures state { memory_state self.new ≡ state_after_reading (planned CallKind.List (plans_of self.old)) (memory_state self.old) }
+        ensures calls { memory_calls self.new ≡ memory_calls self.old }
     {
         if self.fails_to_read(CallKind::List) {
             return Err(ListFail::Failed);
@@ -190,6 +200,7 @@ impl Disk for MemorySite {
         ensures size { MatchOption (planned CallKind.Size (plans_of self.old)) (result ≡ Ok (option_map length (get (memory_state self.old).folder name.now))) (λ _. result ≡ Err (record {})) }
         ensures plans { plans_of self.new ≡ map (nearer CallKind.Size) (plans_of self.old) }
         ensures state { memory_state self.new ≡ state_after_reading (planned CallKind.Size (plans_of self.old)) (memory_state self.old) }
+        ensures calls { memory_calls self.new ≡ memory_calls self.old }
     {
         if self.fails_to_read(CallKind::Size) {
             return Err(Failed);
@@ -204,6 +215,7 @@ impl Disk for MemorySite {
             (λ _. (result ≡ Err (record {})) × (into.new ≡ into.old)) }
         ensures plans { plans_of self.new ≡ map (nearer CallKind.ReadAt) (plans_of self.old) }
         ensures state { memory_state self.new ≡ state_after_reading (planned CallKind.ReadAt (plans_of self.old)) (memory_state self.old) }
+        ensures calls { memory_calls self.new ≡ memory_calls self.old }
     {
         if self.fails_to_read(CallKind::ReadAt) {
             return Err(Failed);
@@ -215,6 +227,7 @@ impl Disk for MemorySite {
         ensures plans { plans_of self.new ≡ map (nearer CallKind.Create) (plans_of self.old) }
         ensures made { DoesDiskCall (planned CallKind.Create (plans_of self.old)) result 0 (insert (memory_state self.old).folder name.now []) (memory_state self.old).folder
             (memory_state self.old) (memory_state self.new) }
+        ensures calls { memory_calls self.new ≡ calls_after (planned CallKind.Create (plans_of self.old)) (memory_state self.old) (call.Create name.now) (memory_calls self.old) }
     {
         self.make(CallKind::Create, Call::Create(name.copy()))
     }
@@ -225,6 +238,8 @@ impl Disk for MemorySite {
         ensures made { DoesDiskCall (planned CallKind.Append (plans_of self.old)) result (length_at (memory_state self.old).folder name.now + length bytes.now)
             (appended (memory_state self.old).folder name.now bytes.now) (appended (memory_state self.old).folder name.now (first_half bytes.now))
             (memory_state self.old) (memory_state self.new) }
+        ensures calls { RecordsAppend (has_room (memory_state self.old) (length_at (memory_state self.old).folder name.now + length bytes.now)) name.now
+            (memory_calls self.old) (memory_calls self.new) }
     {
         self.append_bytes(name, bytes)
     }
@@ -233,6 +248,7 @@ impl Disk for MemorySite {
         ensures plans { plans_of self.new ≡ map (nearer CallKind.Sync) (plans_of self.old) }
         ensures made { DoesDiskCall (planned CallKind.Sync (plans_of self.old)) result 0 (memory_state self.old).folder (memory_state self.old).folder
             (memory_state self.old) (memory_state self.new) }
+        ensures calls { memory_calls self.new ≡ calls_after (planned CallKind.Sync (plans_of self.old)) (memory_state self.old) (call.Sync name.now) (memory_calls self.old) }
     {
         self.make(CallKind::Sync, Call::Sync(name.copy()))
     }
@@ -241,6 +257,7 @@ impl Disk for MemorySite {
         ensures plans { plans_of self.new ≡ map (nearer CallKind.Rename) (plans_of self.old) }
         ensures made { DoesDiskCall (planned CallKind.Rename (plans_of self.old)) result 0 (moved (memory_state self.old).folder from.now to.now) (memory_state self.old).folder
             (memory_state self.old) (memory_state self.new) }
+        ensures calls { memory_calls self.new ≡ calls_after (planned CallKind.Rename (plans_of self.old)) (memory_state self.old) (call.Rename from.now to.now) (memory_calls self.old) }
     {
         self.make(
             CallKind::Rename,
@@ -255,6 +272,7 @@ impl Disk for MemorySite {
         ensures plans { plans_of self.new ≡ map (nearer CallKind.Remove) (plans_of self.old) }
         ensures made { DoesDiskCall (planned CallKind.Remove (plans_of self.old)) result 0 (remove (memory_state self.old).folder name.now) (memory_state self.old).folder
             (memory_state self.old) (memory_state self.new) }
+        ensures calls { memory_calls self.new ≡ calls_after (planned CallKind.Remove (plans_of self.old)) (memory_state self.old) (call.Remove name.now) (memory_calls self.old) }
     {
         self.make(CallKind::Remove, Call::Remove(name.copy()))
     }
@@ -263,6 +281,7 @@ impl Disk for MemorySite {
         ensures plans { plans_of self.new ≡ map (nearer CallKind.SyncNames) (plans_of self.old) }
         ensures made { DoesDiskCall (planned CallKind.SyncNames (plans_of self.old)) result 0 (memory_state self.old).folder (memory_state self.old).folder
             (memory_state self.old) (memory_state self.new) }
+        ensures calls { memory_calls self.new ≡ calls_after (planned CallKind.SyncNames (plans_of self.old)) (memory_state self.old) call.SyncNames (memory_calls self.old) }
     {
         self.make(CallKind::SyncNames, Call::SyncNames)
     }
@@ -271,17 +290,21 @@ impl Disk for MemorySite {
         ensures plans { plans_of self.new ≡ map (nearer CallKind.Barrier) (plans_of self.old) }
         ensures made { DoesDiskCall (planned CallKind.Barrier (plans_of self.old)) result 0 (memory_state self.old).folder (memory_state self.old).folder
             (memory_state self.old) (memory_state self.new) }
+        ensures calls { memory_calls self.new ≡ calls_after (planned CallKind.Barrier (plans_of self.old)) (memory_state self.old) call.Barrier (memory_calls self.old) }
     {
         self.make(CallKind::Barrier, Call::Barrier)
     }
 }
 
 impl Site for MemorySite {
-    ghost use Rattle.ts_site.specs.MemorySite.{memory_state, plans_of, planned, nearer, DoesSayCall};
+    ghost use Rattle.ts_site.specs.declared.call.Call.TheVariants as call;
+    ghost use Rattle.ts_site.specs.MemorySite.{memory_state, memory_calls, plans_of, planned, nearer, DoesSayCall};
+    ghost use Rattle.ts_site.specs.Recorder.{calls_with, has_room};
 
     fn say(&mut self, piece: &[u8]) -> Result<(), Failed>
         ensures plans { plans_of self.new ≡ map (nearer CallKind.Say) (plans_of self.old) }
         ensures made { DoesSayCall (planned CallKind.Say (plans_of self.old)) result piece.now (memory_state self.old) (memory_state self.new) }
+        ensures calls { memory_calls self.new ≡ calls_with (has_room (memory_state self.old) (length piece.now)) (call.Say (length (memory_state self.new).told)) (memory_calls self.old) }
     {
         self.say_piece(piece)
     }

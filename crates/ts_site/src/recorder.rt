@@ -30,7 +30,8 @@ pub struct Recorder {
 }
 
 impl Recorder {
-    ghost use Rattle.ts_site.specs.Recorder.{memory_state, memory_calls, MakesDiskCall, MakesSayCall, spoiled, spoiled_say, one_more};
+    ghost use Rattle.ts_site.specs.declared.call.Call.TheVariants.{Say};
+    ghost use Rattle.ts_site.specs.Recorder.{memory_state, memory_calls, calls_with, has_room, RecordsAppend, MakesDiskCall, MakesSayCall, spoiled, spoiled_say, one_more};
 
     /// An empty folder, with room for this many calls that change the folder, settle it or say something,
     /// and for this many bytes. An append uses as many bytes as its file has with the whole piece added, and
@@ -96,8 +97,10 @@ impl Recorder {
     pub fn append(&mut self, name: &FileName, bytes: &[u8], kept: usize) -> Result<(), Failed>
         requires standing { IsTrue (contains_key (memory_state self.old).folder name.now) }
         requires within { kept ≤ length bytes.now }
-        ensures { MakesDiskCall result (length_at (memory_state self.old).folder name.now + length bytes.now)
+        ensures made { MakesDiskCall result (length_at (memory_state self.old).folder name.now + length bytes.now)
             (appended (memory_state self.old).folder name.now (take kept bytes.now)) (memory_state self.old) (memory_state self.new) }
+        ensures calls { RecordsAppend (has_room (memory_state self.old) (length_at (memory_state self.old).folder name.now + length bytes.now)) name.now
+            (memory_calls self.old) (memory_calls self.new) }
     {
         let (start, end) = range_of(&self.settled, &self.calls, name).unwrap();
         let before = (end - start) as u64;
@@ -121,7 +124,8 @@ impl Recorder {
     /// Makes a call that uses no bytes.
     pub fn make(&mut self, call: Call) -> Result<(), Failed>
         requires { (size : ℕ) → IsTrue (call_lies_in size call) }
-        ensures { MakesDiskCall result 0 (happens self.old.store.items call (memory_state self.old).folder) (memory_state self.old) (memory_state self.new) }
+        ensures made { MakesDiskCall result 0 (happens self.old.store.items call (memory_state self.old).folder) (memory_state self.old) (memory_state self.new) }
+        ensures calls { memory_calls self.new ≡ calls_with (has_room (memory_state self.old) 0) call (memory_calls self.old) }
     {
         if self.calls_left == 0 {
             self.count_disk_fault();
@@ -134,7 +138,8 @@ impl Recorder {
 
     /// Uses the room for a call, which does nothing.
     pub fn pass(&mut self) -> Result<(), Failed>
-        ensures { MakesDiskCall result 0 (memory_state self.old).folder (memory_state self.old) (memory_state self.new) }
+        ensures made { MakesDiskCall result 0 (memory_state self.old).folder (memory_state self.old) (memory_state self.new) }
+        ensures calls { memory_calls self.new ≡ memory_calls self.old }
     {
         if self.calls_left == 0 {
             self.count_disk_fault();
@@ -147,7 +152,8 @@ impl Recorder {
     /// Says the first `kept` bytes of a piece, and uses the room for all of it.
     pub fn say(&mut self, piece: &[u8], kept: usize) -> Result<(), Failed>
         requires { kept ≤ length piece.now }
-        ensures { MakesSayCall result (length piece.now) (take kept piece.now) (memory_state self.old) (memory_state self.new) }
+        ensures made { MakesSayCall result (length piece.now) (take kept piece.now) (memory_state self.old) (memory_state self.new) }
+        ensures calls { memory_calls self.new ≡ calls_with (has_room (memory_state self.old) (length piece.now)) (Say (length (memory_state self.new).told)) (memory_calls self.old) }
     {
         if self.calls_left == 0 || self.bytes_left < piece.len() as u64 {
             self.count_say_fault();
@@ -171,6 +177,7 @@ impl Recorder {
     pub fn spoil(&mut self, made: Result<(), Failed>) -> Result<(), Failed>
         ensures failed { result ≡ Err (record {}) }
         ensures state { memory_state self.new ≡ spoiled made (memory_state self.old) }
+        ensures calls { memory_calls self.new ≡ memory_calls self.old }
     {
         if made.is_ok() {
             self.count_disk_fault();
@@ -182,6 +189,7 @@ impl Recorder {
     pub fn spoil_say(&mut self, made: Result<(), Failed>) -> Result<(), Failed>
         ensures failed { result ≡ Err (record {}) }
         ensures state { memory_state self.new ≡ spoiled_say made (memory_state self.old) }
+        ensures calls { memory_calls self.new ≡ memory_calls self.old }
     {
         if made.is_ok() {
             self.count_say_fault();
@@ -191,14 +199,16 @@ impl Recorder {
 
     /// One fault of the disk more.
     pub fn count_disk_fault(&mut self)
-        ensures { memory_state self.new ≡ record (memory_state self.old) { disk_faults = one_more (memory_state self.old).disk_faults } }
+        ensures calls { memory_calls self.new ≡ memory_calls self.old }
+        ensures state { memory_state self.new ≡ record (memory_state self.old) { disk_faults = one_more (memory_state self.old).disk_faults } }
     {
         self.disk_faults = self.disk_faults.saturating_add(1);
     }
 
     /// One fault of the output more.
     pub fn count_say_fault(&mut self)
-        ensures { memory_state self.new ≡ record (memory_state self.old) { say_faults = one_more (memory_state self.old).say_faults } }
+        ensures calls { memory_calls self.new ≡ memory_calls self.old }
+        ensures state { memory_state self.new ≡ record (memory_state self.old) { say_faults = one_more (memory_state self.old).say_faults } }
     {
         self.say_faults = self.say_faults.saturating_add(1);
     }

@@ -1,4 +1,4 @@
-use Rattle.ts_model.proofs.PieceLaws.{answers_false}
+use Rattle.ts_model.proofs.DelimitedLaws.{answers_false}
 use Rattle.ts_model.proofs.SpellingLaws.{canonical_text}
 use Rattle.ts_model.proofs.canonical.is_canonical.Goals as goal
 

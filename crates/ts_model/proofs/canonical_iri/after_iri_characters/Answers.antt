@@ -1,6 +1,6 @@
 use Rattle.std.proofs.Common.{rules}
 use Rattle.ts_model.specs.Iri.{iri_character}
-use Rattle.ts_model.proofs.PieceLaws.{EndsAt-mark, EndsAt-step, followed}
+use Rattle.ts_model.proofs.DelimitedLaws.{EndsAt-delimiter, EndsAt-step, followed}
 use Rattle.ts_model.proofs.IriLaws.{iri_code, length_written}
 use Rattle.ts_model.proofs.TextLaws.{shorter}
 use Rattle.ts_model.proofs.canonical_iri.after_iri_characters.Goals as goal
@@ -15,4 +15,4 @@ loop-rest-preserved c = record {
 }
 
 pub returns : goal.returns
-returns c = λ rest. followed (c.loop-rest.invariant.same_end rest) (followed (EndsAt-mark iri_character 0x3E _ rest c.in_default.ensures.none) (c.after_mark.ensures rest))
+returns c = λ rest. followed (c.loop-rest.invariant.same_end rest) (followed (EndsAt-delimiter iri_character 0x3E _ rest c.in_default.ensures.none) (c.after_prefix.ensures rest))

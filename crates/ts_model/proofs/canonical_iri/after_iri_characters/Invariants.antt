@@ -2,7 +2,7 @@ use Rattle.std.proofs.Common.{◌↔◌, ℕ, List, length}
 use denote.Text.{Utf8}
 use denote.Shadow.{shadow}
 use Rattle.ts_model.specs.Iri.{iri_character}
-use Rattle.ts_model.specs.Pieces.{EndsAt}
+use Rattle.ts_model.specs.Delimited.{EndsAt}
 use Rattle.ts_model.proofs.canonical_iri.after_iri_characters.Given as goal
 
 abbrev pub invariant-loop-rest : goal.invariant-loop-rest

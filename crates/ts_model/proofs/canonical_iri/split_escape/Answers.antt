@@ -1,6 +1,6 @@
 use Rattle.std.proofs.Common.{refl, arith, ◌/◌, ◌%◌, ◌∷◌}
 use Rattle.ts_model.specs.Iri.{upper_digit}
-use Rattle.ts_model.proofs.PieceLaws.{none_is_some}
+use Rattle.ts_model.proofs.DelimitedLaws.{none_is_some}
 use Rattle.ts_model.proofs.IriLaws.{same_digits, next_digit, number_written}
 use Rattle.ts_model.proofs.canonical_iri.split_escape.Goals as goal
 

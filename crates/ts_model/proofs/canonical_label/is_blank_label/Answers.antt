@@ -1,7 +1,7 @@
 use Rattle.std.proofs.Common.{rules, ◌≡◌, refl, subst, sym, ◌∷◌}
 use Rattle.ts_model.specs.BlankLabel.{IsBlankLabel}
-use Rattle.ts_model.proofs.MarkLaws.{blank_label}
-use Rattle.ts_model.proofs.PieceLaws.{answers_false, none_is_some, followed}
+use Rattle.ts_model.proofs.WholeTextLaws.{blank_label}
+use Rattle.ts_model.proofs.DelimitedLaws.{answers_false, none_is_some, followed}
 use Rattle.ts_model.proofs.canonical_label.is_blank_label.Goals as goal
 
 pub returns-in-Some : goal.returns-in-Some

@@ -1,7 +1,7 @@
 use Rattle.std.proofs.Common.{rules, ◌≡◌, ◌∷◌, refl, sym, subst}
 use Rattle.ts_model.specs.Literal.{IsEnding}
-use Rattle.ts_model.proofs.PieceLaws.{followed, none_is_some, is_empty_text}
-use Rattle.ts_model.proofs.MarkLaws.{language_ending}
+use Rattle.ts_model.proofs.DelimitedLaws.{followed, none_is_some, is_empty_text}
+use Rattle.ts_model.proofs.WholeTextLaws.{language_ending}
 use Rattle.ts_model.proofs.LiteralLaws.{type_alone, tag_alone, nothing_alone}
 use Rattle.ts_model.proofs.canonical_literal.is_ending.Goals as goal
 
@@ -11,12 +11,12 @@ returns-in-Some c =
     let both = followed c.is_written_type.ensures (type_alone _) in
     (λ e. subst IsEnding (sym begins) (both.0 e), λ ending. both.1 (subst IsEnding begins ending))
 
-pub returns-in-Some-after_mark : goal.returns-in-Some-after_mark
-returns-in-Some-after_mark c =
-    let begins : c.args.text.now ≡ 0x40 ∷ c.in-Some-after_mark.tag.now = (c.in-Some-after_mark.ensures _).1 refl in
+pub returns-in-Some-after_prefix : goal.returns-in-Some-after_prefix
+returns-in-Some-after_prefix c =
+    let begins : c.args.text.now ≡ 0x40 ∷ c.in-Some-after_prefix.tag.now = (c.in-Some-after_prefix.ensures _).1 refl in
     let both = followed c.is_tag.ensures (followed (language_ending _ (search rules)) (tag_alone _)) in
     (λ e. subst IsEnding (sym begins) (both.0 e), λ ending. both.1 (subst IsEnding begins ending))
 
 pub returns : goal.returns
 returns c = followed (is_empty_text _ _ c.is_empty.ensures)
-    (nothing_alone _ (λ rest e. none_is_some _ ((c.in_default.ensures rest).0 e)) (λ rest e. none_is_some _ ((c.in_default-after_mark.ensures rest).0 e)))
+    (nothing_alone _ (λ rest e. none_is_some _ ((c.in_default.ensures rest).0 e)) (λ rest e. none_is_some _ ((c.in_default-after_prefix.ensures rest).0 e)))

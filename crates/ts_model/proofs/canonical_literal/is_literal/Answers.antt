@@ -1,6 +1,6 @@
 use Rattle.std.proofs.Common.{refl, subst, sym}
 use Rattle.ts_model.specs.Literal.{IsEnding}
-use Rattle.ts_model.proofs.PieceLaws.{answers_false, none_is_some, same_some}
+use Rattle.ts_model.proofs.DelimitedLaws.{answers_false, none_is_some, same_some}
 use Rattle.ts_model.proofs.LiteralLaws.{behind_string}
 use Rattle.ts_model.proofs.canonical_literal.is_literal.Goals as goal
 

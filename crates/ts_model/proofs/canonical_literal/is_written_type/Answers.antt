@@ -1,5 +1,5 @@
 use Rattle.std.proofs.Common.{false}
-use Rattle.ts_model.proofs.PieceLaws.{answers_false, answers_same}
+use Rattle.ts_model.proofs.DelimitedLaws.{answers_false, answers_same}
 use Rattle.ts_model.proofs.LiteralLaws.{is_type, same_type, other_type}
 use Rattle.ts_model.proofs.canonical_literal.is_written_type.Goals as goal
 

@@ -1,7 +1,7 @@
 use Rattle.std.proofs.Common.{rules}
 use Rattle.ts_model.specs.Literal.{IsTag}
-use Rattle.ts_model.proofs.MarkLaws.{nothing_left, no_front}
-use Rattle.ts_model.proofs.PieceLaws.{answers_false, followed, is_empty_text}
+use Rattle.ts_model.proofs.WholeTextLaws.{nothing_left, no_front}
+use Rattle.ts_model.proofs.DelimitedLaws.{answers_false, followed, is_empty_text}
 use Rattle.ts_model.proofs.canonical_tag.is_tag.Goals as goal
 
 pub returns-in-Some : goal.returns-in-Some

@@ -10,8 +10,8 @@ use Rattle.ts_model.proofs.LentLaws.{lent, IsSorted-lent, IsStable-lent, passed-
 use Rattle.ts_model.proofs.NetLaws.{net_additions_are, line_cmp, line_cmp_total, is_same, adds}
 use Rattle.ts_model.proofs.net.net_additions.Goals as goal
 
-pub returns : goal.returns
-returns c =
+pub returns-clause-members : goal.returns-clause-members
+returns-clause-members c =
     let order = ranks_by line_cmp_total (λ (line : Bor SignedTriple). line.now) in
     let compares = answers_always _ _ _ (λ f a r f' k. search rules) in
     let sorted : List (Bor SignedTriple) = c.sort_by.new.self.items in
@@ -27,4 +27,4 @@ returns c =
     ∙ passed-lent is_same adds (λ line. line.triple) sorted
     ∙ net_additions_are c.args.body.now (lent sorted) up stable
     )
-    c.triples_added.ensures
+    c.triples_added.ensures.added

@@ -30,7 +30,7 @@ returns-in_default-3-clause-none c =
     let predicate : TermAt Predicate (chars c.after_blanks-3.result.now) c.in-Some-2.predicate.items (chars c.in-Some-2.text.now) = search (rules) in
     let predicates = predicate_is text _ _ _ c.after_blanks-3.ensures subjects _ _ predicate in
     let none : (spelling rest : List ℕ) → TermAt c.object_kind-object_kind.result (chars c.after_blanks-text.result.now) spelling rest → ⊥ = search (rules) in
-    no_object text _ _ _ c.after_blanks-text.ensures predicates _ c.object_kind-object_kind.ensures none
+    no_object text _ _ _ c.after_blanks-text.ensures predicates _ c.object_kind-object_kind.ensures.is none
 
 pub returns-then-not-is_end-clause-none : goal.returns-then-not-is_end-clause-none
 returns-then-not-is_end-clause-none c =
@@ -41,7 +41,7 @@ returns-then-not-is_end-clause-none c =
     let predicate : TermAt Predicate (chars c.after_blanks-3.result.now) c.in-Some-2.predicate.items (chars c.in-Some-2.text.now) = search (rules) in
     let predicates = predicate_is text _ _ _ c.after_blanks-3.ensures subjects _ _ predicate in
     let object : TermAt c.object_kind-object_kind.result (chars c.after_blanks-text.result.now) c.in-Some-3.object.items (chars c.in-Some-3.text.now) = search (rules) in
-    let objects = object_is text _ _ _ c.after_blanks-text.ensures predicates _ c.object_kind-object_kind.ensures _ _ object in
+    let objects = object_is text _ _ _ c.after_blanks-text.ensures predicates _ c.object_kind-object_kind.ensures.is _ _ object in
     let none : IsEnd (chars c.in-Some-3.text.now) → ⊥ = search (rules) in
     no_end text _ _ _ objects none
 
@@ -57,7 +57,7 @@ returns-clause-some c =
     let at_predicate = chars c.after_blanks-3.result.now in
     let at_object = chars c.after_blanks-text.result.now in
     record {
-      kinds = (refl, refl, kinds_stand c.object_kind-object_kind.result at_object c.object_kind-object_kind.ensures);
+      kinds = (refl, refl, kinds_stand c.object_kind-object_kind.result at_object c.object_kind-object_kind.ensures.is);
       after_sign = behind;
       after_subject = chars c.in-Some.text.now;
       after_predicate = chars c.in-Some-2.text.now;

@@ -1,5 +1,6 @@
 use Rattle.std.proofs.Common.{rules, ◌≡◌, ◌<◌, [], length, chars, IsUtf8, ap, ◌∙◌, sym, subst, arith, eq-eqb, true≢false}
 use Rattle.std.proofs.lemmas.Bool.{eqb-true}
+use Rattle.ts_model.specs.Limits.{term_limit}
 use Rattle.ts_nt.specs.Terms.{TermAt}
 use Rattle.ts_nt.proofs.LineLaws.{spelling_canonical, whole_spelling, spelled_once, nothing_left, no_characters}
 use Rattle.ts_nt.proofs.read.read_term.Goals as goal
@@ -16,7 +17,7 @@ pub returns-then-len-gt-TERM_LIMIT-clause-none : goal.returns-then-len-gt-TERM_L
 returns-then-len-gt-TERM_LIMIT-clause-none c = λ other spells short.
     let reads : TermAt c.args.kind (chars c.in-Ok.text.now) c.in-Some.spelling.items (chars c.in-Some.rest.now) = search (rules) in
     let once = spelled_once c.args.bytes.now c.in-Ok.text.now c.in-Ok.ensures.cases.0 c.in-Ok.ensures.cases.1 c.args.kind _ _ reads other spells in
-    let long : 1048576 < length c.in-Some.spelling.items = search (rules) in
+    let long : term_limit < length c.in-Some.spelling.items = search (rules) in
     omega (arith, long, short, ap length once.0)
 
 pub of_canonical-requires-clause-canonical : goal.of_canonical-requires-clause-canonical

@@ -14,4 +14,4 @@ returns-clause-reads c =
     let first = term_of_bytes _ _ _ c.subject.ensures.subject c.spelling.ensures.spelling c.spelling.ensures.canonical c.spelling.ensures.within in
     let second = term_of_bytes _ _ _ c.predicate.ensures.predicate c.spelling-2.ensures.spelling c.spelling-2.ensures.canonical c.spelling-2.ensures.within in
     let third = term_of_bytes _ _ _ c.object.ensures.object c.spelling-3.ensures.spelling c.spelling-3.ensures.canonical c.spelling-3.ensures.within in
-    on_ok_weaker c.extend_from_slice-4.result (reads_back c.args.triple.now c.args.into.now.items c.extend_from_slice-4.new.self.items c.subject.ensures.kinds first second third) written
+    on_ok_weaker c.extend_from_slice-4.result (reads_back c.args.triple.now c.args.into.now.items c.extend_from_slice-4.new.self.items c.subject.ensures.is_triple.0 first second third) written

@@ -16,4 +16,4 @@ returns-in-Some-clause-made c =
     let fault : planned kind.Append (plans_of site) ≡ Some c.in-Some.how = cc (c.in-Some.ensures.fault, c.deref_mut.ensures.value) in
     subst (λ plan. DoesDiskCall plan c.spoil.result (length_at folder name + length bytes) (appended folder name bytes) (appended folder name (first_half bytes)) (memory_state site) (recorded c.spoil.new.self)) (sym fault)
     (disk_call_spoiled c.in-Some.how c.append-made.result c.spoil.result (length_at folder name + length bytes) (appended folder name bytes) (appended folder name (first_half bytes)) (appended folder name (take c.kept_by.result bytes))
-    (memory_state site) (recorded c.append-made.new.self) (recorded c.spoil.new.self) (kept_folder c.in-Some.how folder name bytes c.kept_by.result c.kept_by.ensures) c.append-made.ensures c.spoil.ensures.failed c.spoil.ensures.state)
+    (memory_state site) (recorded c.append-made.new.self) (recorded c.spoil.new.self) (kept_folder c.in-Some.how folder name bytes c.kept_by.result c.kept_by.ensures) c.append-made.ensures.made c.spoil.ensures.failed c.spoil.ensures.state)

@@ -26,8 +26,8 @@ invariant_of-self-2-clause-stored c =
     let site = c.args.self.now in
     all_lie_longer site.store.len c.store_longer-start.new.store.len site.settled.items c.store_longer-start.ensures.longer site.stored
 
-pub returns : goal.returns
-returns c =
+pub returns-clause-made : goal.returns-clause-made
+returns-clause-made c =
     let site = c.args.self.now in
     let store = site.store.items in
     let start = c.unwrap-start.result.0 in

@@ -7,8 +7,8 @@ use Rattle.ts_site.proofs.CallLemmas.{folder_after-push}
 use Rattle.ts_site.proofs.MemoryLemmas.{disk_call_made}
 use Rattle.ts_site.proofs.recorder.Recorder.make.Goals as goal
 
-pub returns : goal.returns
-returns c =
+pub returns-clause-made : goal.returns-clause-made
+returns-clause-made c =
     let site = c.args.self.now in
     let base = with_files site.store.items site.settled.items no_files in
     let pushed : c.push.new.self.items ≡ site.calls.items ++ c.args.call ∷ [] = rw c.unwrap.ensures at c.push.ensures.items in

@@ -8,8 +8,8 @@ use Rattle.ts_site.proofs.CallLemmas.{folder_after-push}
 use Rattle.ts_site.proofs.MemoryLemmas.{say_call_made}
 use Rattle.ts_site.proofs.recorder.Recorder.say.Goals as goal
 
-pub returns : goal.returns
-returns c =
+pub returns-clause-made : goal.returns-clause-made
+returns-clause-made c =
     let site = c.args.self.now in
     let base = with_files site.store.items site.settled.items no_files in
     let told = rw c.unwrap.ensures at c.extend_from_slice.ensures.items in
