@@ -2,7 +2,7 @@ use Rattle.std.proofs.Common.{◌≡◌, ◌%◌, ℕ, ◌+◌, ◌-◌, ◌*◌
 use Rattle.std.specs.Prelude.{All}
 use Rattle.std.proofs.lemmas.List.{length-take, length-take-le, take_at, drop_at, take-take, drop-take, take-append-drop, take_all}
 use Rattle.ts_log.specs.Groups.{joined, elements_in, IsPacked}
-use Rattle.ts_log.specs.LogArray.{words_for, control, packed, log_array_of, width_of, LogSays}
+use Rattle.ts_log.specs.LogArray.{words_for, control, packed, log_array_of, width_of, LogSays, FrontSaysOnly}
 use Rattle.ts_log.proofs.GroupsLemmas.{Below, Below-All, Below-from_get_or}
 use Rattle.ts_log.proofs.WidthLemmas.{width_le, greatest_lt, Below_width}
 use Rattle.ts_log.proofs.ControlLemmas.{ControlWords, length-control, same_control, control_words}
@@ -79,6 +79,9 @@ one_prefix_says m n bytes xs ys h k p q =
     let same : xs ≡ ys =
     same_front xs ys bytes p.counted q.counted (front_of_says m bytes xs p.spelled) (front_of_says n bytes ys q.spelled) in
     (sym (length-take-le m bytes h) ∙ ap length (p.spelled ∙ ap log_array_of same ∙ sym q.spelled) ∙ length-take-le n bytes k, same)
+
+pub only_front : (n : ℕ) (bytes xs : List ℕ) → n ≤ length bytes → LogSays (take n bytes) xs → FrontSaysOnly bytes n xs
+only_front n bytes xs h says m ys k other = one_prefix_says m n bytes ys xs k h other says
 
 -- what stands after the control of a log array, whole
 pub record IsWhole (xs bytes : List ℕ) : Type 0 where

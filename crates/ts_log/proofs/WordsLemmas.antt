@@ -1,10 +1,10 @@
 use Rattle.std.proofs.Common.{◌≡◌, ◌≢◌, ℕ, ◌+◌, ◌-◌, ◌*◌, ◌/◌, ◌%◌, ◌^◌, ◌<◌, ◌≤◌, min, List, length, get_or, take, drop, ◌⊎◌, inl, inr, sym, ◌∙◌, ap, subst, arith}
 use Rattle.std.proofs.lemmas.Nat.{div-add-mod'}
 use Rattle.std.proofs.Math.Nat.{pow-le-pow_right}
-use Rattle.std.proofs.lemmas.List.{length-take, length-drop}
+use Rattle.std.proofs.lemmas.List.{length-take, length-drop, take_rest}
 use Rattle.ts_log.specs.Groups.{joined, elements_in, element_in}
 use Rattle.ts_log.specs.LogArray.{words_for, control, packed, width_of, LogSays, AreWords}
-use Rattle.ts_log.proofs.GroupsLemmas.{Below, Below-All}
+use Rattle.ts_log.proofs.GroupsLemmas.{Below, Below-All, Below-take, Below-drop}
 use Rattle.ts_log.proofs.ElementLemmas.{get_or-elements_in, length-elements_in}
 use Rattle.ts_log.proofs.WidthLemmas.{width_is}
 use Rattle.ts_log.proofs.ArrayLemmas.{padding_for, words_enough, length-packed, packed_ends, packed_needs, packed-elements_in, Below-elements_in}
@@ -92,3 +92,14 @@ says_here w n bytes words b long e h here are =
         counted = omega arith;
       },
     )
+
+-- the control and the words that are found at the start of bytes are a log array there
+pub front_says : (w n : ℕ) (bytes words : List ℕ) → Below (2 ^ 8) bytes → 16 ≤ length bytes → take 16 bytes ≡ control w n → n < 2 ^ 64
+    → words ≡ take (8 * words_for w n) (take (length bytes - 16) (drop 16 bytes)) → AreWords w n words
+    → (16 + length words ≤ length bytes) × LogSays (take (16 + length words) bytes) (elements_in w n words)
+front_says w n bytes words b long e h found are =
+    let there : words ≡ take (8 * words_for w n) (drop 16 bytes) = found ∙ ap (take (8 * words_for w n)) (take_rest bytes 16) in
+    let fit : Below (2 ^ 8) words =
+    subst (Below (2 ^ 8)) (sym there)
+    (Below-take (2 ^ 8) (8 * words_for w n) (drop 16 bytes) (Below-drop (2 ^ 8) 16 bytes b)) in
+    says_here w n bytes words fit long e h there are

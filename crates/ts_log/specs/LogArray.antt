@@ -1,4 +1,4 @@
-use Rattle.std.specs.Prelude.{◌≡◌, ℕ, ◌+◌, ◌-◌, ◌*◌, ◌/◌, ◌^◌, ◌<◌, max, List, [], ◌∷◌, ◌++◌, length, replicate, All}
+use Rattle.std.specs.Prelude.{◌≡◌, ℕ, ◌+◌, ◌-◌, ◌*◌, ◌/◌, ◌^◌, ◌<◌, ◌≤◌, max, List, [], ◌∷◌, ◌++◌, length, take, replicate, All}
 use Rattle.std.specs.List.{flat_map}
 use Rattle.std.specs.Int.{w64, to_be_bytes}
 use Rattle.std.specs.Int.Digits.{digits_of}
@@ -50,3 +50,8 @@ pub record LogSays (bytes numbers : List ℕ) : Type 0 where
 -- the bytes, whole, are the log array of no other numbers
 abbrev pub LogSaysOnly : List ℕ → List ℕ → Type 0
 LogSaysOnly bytes numbers = (others : List ℕ) → LogSays bytes others → others ≡ numbers
+
+-- no other front of the bytes is a log array, and this one is that of no other numbers
+abbrev pub FrontSaysOnly : List ℕ → ℕ → List ℕ → Type 0
+FrontSaysOnly bytes size numbers = (front : ℕ) (others : List ℕ)
+    → front ≤ length bytes → LogSays (take front bytes) others → (front ≡ size) × (others ≡ numbers)

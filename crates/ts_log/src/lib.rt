@@ -4,7 +4,8 @@
 //! In the order in which a reader meets them:
 //!
 //! - [`LogBuilder`] takes numbers one at a time, and appends the log array of them to a buffer. In
-//!   contracts it is the list of the numbers pushed, or nothing once it found no memory.
+//!   contracts it is the list of the numbers pushed, or nothing once it found no memory. Where the
+//!   numbers stand in a slice, [`write_log_array`] does it at once.
 //! - [`LogView`] reads a log array where it lies, and copies nothing. In contracts it is the list of
 //!   its numbers.
 //!
@@ -29,6 +30,7 @@ mod write;
 
 pub use builder::LogBuilder;
 pub use view::LogView;
+pub use write::write_log_array;
 
 #[cfg(test)]
 mod tests;

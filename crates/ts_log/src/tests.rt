@@ -32,6 +32,8 @@ fn reads_checked_bytes(rt: HostRuntime) {
     assert_eq!(rt; view.len(), 3);
     assert_eq!(rt; view.find_sorted(0, 3, 3), Some(2));
     assert_eq!(rt; view.find_sorted(0, 3, 4), None);
+    assert_eq!(rt; view.first_at_least(0, 3, 2), 1);
+    assert_eq!(rt; view.first_at_least(0, 3, 4), 3);
 }
 
 #[test]

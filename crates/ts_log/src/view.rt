@@ -1,7 +1,7 @@
 //! A log array read where it lies.
 
 ghost use Rattle.std.specs.Prelude.{◌≡◌, ◌≢◌, ℕ, ◌+◌, ◌*◌, ◌<◌, ◌≤◌, List, length, take, slice_index, IfSome, IfNone, IsTrue, ◌↔◌};
-ghost use Rattle.ts_log.specs.LogArray.{LogSays, LogSaysOnly};
+ghost use Rattle.ts_log.specs.LogArray.{LogSays, LogSaysOnly, FrontSaysOnly};
 ghost use Rattle.ts_log.specs.Rising.{RisesBetween};
 
 use crate::control::{CONTROL, read_control};
@@ -42,11 +42,12 @@ impl<'a> LogView<'a> {
         }
     }
 
-    /// The view of the log array at the start of these bytes, and how many bytes it takes. At most
-    /// one prefix is a log array.
+    /// The view of the log array at the start of these bytes, and how many bytes it takes. No
+    /// other prefix is a log array.
     pub fn open_front(bytes: &'a [u8]) -> Option<(LogView<'a>, usize)>
         ensures some { IfSome result (λ found.
             (found.1 ≤ length bytes.now) × LogSays (take found.1 bytes.now) found.0) }
+        ensures only { IfSome result (λ found. FrontSaysOnly bytes.now found.1 found.0) }
         ensures none { IfNone result ((size : ℕ) (numbers : List ℕ)
             → ¬ LogSays (take size bytes.now) numbers) }
     {
@@ -109,6 +110,30 @@ impl<'a> LogView<'a> {
         element(self.words, self.width, i)
     }
 
+    /// The first place from `from` on, and before `to`, whose number is at least `x`, and `to` where
+    /// there is none. The numbers rise there: a binary search.
+    pub fn first_at_least(&self, from: u64, to: u64, x: u64) -> u64
+        requires ordered { from ≤ to }
+        requires inside { to ≤ length self.now }
+        requires rising { RisesBetween self.now from to }
+        ensures begins { from ≤ result }
+        ensures ends { result ≤ to }
+        ensures below { (i : ℕ) → from ≤ i → i < result → slice_index self.now i < x }
+        ensures reached { (i : ℕ) → result ≤ i → i < to → x ≤ slice_index self.now i }
+    {
+        let mut low = from;
+        let mut high = to;
+        while low < high {
+            let middle = low + (high - low) / 2;
+            if self.get(middle) < x {
+                low = middle + 1;
+            } else {
+                high = middle;
+            }
+        }
+        low
+    }
+
     /// The place of `x` among the places from `from` to before `to`, where the numbers rise: a
     /// binary search.
     pub fn find_sorted(&self, from: u64, to: u64, x: u64) -> Option<u64>
@@ -118,20 +143,11 @@ impl<'a> LogView<'a> {
         ensures found { IfSome result (λ i. (from ≤ i) × (i < to) × (slice_index self.now i ≡ x)) }
         ensures absent { IfNone result ((i : ℕ) → from ≤ i → i < to → slice_index self.now i ≢ x) }
     {
-        let mut low = from;
-        let mut high = to;
-        while low < high {
-            let middle = low + (high - low) / 2;
-            let found = self.get(middle);
-            if found == x {
-                return Some(middle);
-            }
-            if found < x {
-                low = middle + 1;
-            } else {
-                high = middle;
-            }
+        let place = self.first_at_least(from, to, x);
+        if place < to && self.get(place) == x {
+            Some(place)
+        } else {
+            None
         }
-        None
     }
 }

@@ -5,7 +5,7 @@ use Rattle.std.proofs.lemmas.Bool.Decides.{nat_tests}
 use Rattle.std.proofs.lemmas.Int.Digits.{digits_of_step}
 use Rattle.std.proofs.lemmas.Nat.{div_below}
 use Rattle.std.proofs.lemmas.List.{reverse-append, length-take-le, take-append-drop}
-use Rattle.ts_vbyte.specs.Spelling.{groups_of, mark_last, spelling, NumberSays}
+use Rattle.ts_vbyte.specs.Spelling.{groups_of, mark_last, spelling, NumberSays, FrontSaysOnly}
 
 groups_above : (x : ℕ) → 0 < x → groups_of x ≡ reverse (digits_of 128 x)
 unfolding groups_of
@@ -126,6 +126,9 @@ one_spelling_begins m n x y bytes h k p q =
     spelling_cancels x y (drop m bytes) (drop n bytes)
     (ap (λ l. l ++ drop m bytes) (sym p.spelled) ∙ take-append-drop m bytes ∙ sym (take-append-drop n bytes) ∙ ap (λ l. l ++ drop n bytes) q.spelled) in
     (sym (length-take-le m bytes h) ∙ ap length (p.spelled ∙ ap spelling same.0 ∙ sym q.spelled) ∙ length-take-le n bytes k, same.0)
+
+pub only_front : (n x : ℕ) (bytes : List ℕ) → n ≤ length bytes → NumberSays (take n bytes) x → FrontSaysOnly bytes n x
+only_front n x bytes h says m y k other = one_spelling_begins m n y x bytes k h other says
 
 -- a number of 64 bits takes at most ten bytes
 pub length-spelling-le : (k x : ℕ) → x < 128 ^ suc k → length (spelling x) ≤ suc k

@@ -1,4 +1,4 @@
-use Rattle.std.specs.Prelude.{◌≡◌, ℕ, ◌+◌, ◌^◌, ◌<◌, ◌==◌, if◌then◌else◌, List, [], ◌∷◌, reverse}
+use Rattle.std.specs.Prelude.{◌≡◌, ℕ, ◌+◌, ◌^◌, ◌<◌, ◌≤◌, ◌==◌, if◌then◌else◌, List, [], ◌∷◌, length, take, reverse}
 use Rattle.std.specs.Int.Digits.{digits_of}
 
 -- the groups of seven binary digits of a number, the lowest first; 0 has one
@@ -19,3 +19,8 @@ spelling x = mark_last (groups_of x)
 pub record NumberSays (bytes : List ℕ) (x : ℕ) : Type 0 where
   pub spelled : bytes ≡ spelling x
   pub fits : x < 2 ^ 64
+
+-- no other front of the bytes is a spelling, and this one is that of no other number
+abbrev pub FrontSaysOnly : List ℕ → ℕ → ℕ → Type 0
+FrontSaysOnly bytes size x = (front y : ℕ)
+    → front ≤ length bytes → NumberSays (take front bytes) y → (front ≡ size) × (y ≡ x)

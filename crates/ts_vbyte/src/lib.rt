@@ -6,12 +6,12 @@
 //!
 //! [`put`] appends the spelling of a number, and [`get`] reads the one that stands at the start of
 //! some bytes. The layer above uses the relation `NumberSays` of `specs/Spelling.antt`, and that no
-//! spelling begins with another (`one_spelling_begins` of `proofs/SpellingLemmas.antt`).
+//! spelling begins with another (the clause `only` of [`get`]).
 #![tactic(auto)]
 
 ghost use Rattle.std.specs.Prelude.{◌≡◌, ℕ, ◌++◌, ◌≤◌, length, take, OnOk, IfSome, IfNone};
 ghost use Rattle.ts_vbyte.specs.Buffer.{Extends};
-ghost use Rattle.ts_vbyte.specs.Spelling.{spelling, NumberSays};
+ghost use Rattle.ts_vbyte.specs.Spelling.{spelling, NumberSays, FrontSaysOnly};
 
 use std::alloc::AllocError;
 
@@ -34,11 +34,12 @@ pub fn put(into: &mut Vec<u8>, x: u64) -> Result<(), AllocError>
     Ok(())
 }
 
-/// The number whose spelling stands at the start of the bytes, and how many bytes it takes. At most
-/// one prefix is a spelling. It takes no memory.
+/// The number whose spelling stands at the start of the bytes, and how many bytes it takes. No
+/// other prefix is a spelling. It takes no memory.
 pub fn get(bytes: &[u8]) -> Option<(u64, usize)>
     ensures some { IfSome result (λ found.
         (found.1 ≤ length bytes.now) × NumberSays (take found.1 bytes.now) found.0) }
+    ensures only { IfSome result (λ found. FrontSaysOnly bytes.now found.1 found.0) }
     ensures none { IfNone result ((size x : ℕ) → ¬ NumberSays (take size bytes.now) x) }
 {
     let mut value: u64 = 0;

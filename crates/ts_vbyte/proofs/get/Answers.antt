@@ -1,5 +1,6 @@
 use Rattle.std.proofs.Common.{◌≡◌, ◌%◌, ◌<◌, get_or, arith, ◌⊎◌, inl, inr}
 use Rattle.ts_vbyte.proofs.ReadLemmas.{shifted, value_fits, tenth_says, tenth_refused, last_says, more_read, read_empty, read_cut}
+use Rattle.ts_vbyte.proofs.SpellingLemmas.{only_front}
 use Rattle.ts_vbyte.proofs.get.Goals as goal
 
 pub returns-then-byte-clause-some : goal.returns-then-byte-clause-some
@@ -49,3 +50,13 @@ loop-place-preserved c =
 pub returns-clause-none : goal.returns-clause-none
 returns-clause-none c = λ size x says.
     read_cut c.args.bytes.now c.loop-place.place c.loop-place.value c.loop-place.invariant.0 c.loop-place-test.false size x says.spelled
+
+pub returns-then-byte-clause-only : goal.returns-then-byte-clause-only
+returns-then-byte-clause-only c =
+    let says = returns-then-byte-clause-some c in
+    only_front _ _ _ says.0 says.1
+
+pub returns-else-group-eq0-clause-only : goal.returns-else-group-eq0-clause-only
+returns-else-group-eq0-clause-only c =
+    let says = returns-else-group-eq0-clause-some c in
+    only_front _ _ _ says.0 says.1

@@ -9,3 +9,9 @@ find_sorted-requires-clause-rising g c = rw c.copy-view.ensures (one_two_three_r
 
 pub find_sorted-requires-2-clause-rising : goal.find_sorted-requires-2-clause-rising
 find_sorted-requires-2-clause-rising g c = rw c.copy-view.ensures (one_two_three_rise c.of_checked.result c.of_checked.ensures.only)
+
+pub first_at_least-requires-clause-rising : goal.first_at_least-requires-clause-rising
+first_at_least-requires-clause-rising g c = rw c.copy-view.ensures (one_two_three_rise c.of_checked.result c.of_checked.ensures.only)
+
+pub first_at_least-requires-2-clause-rising : goal.first_at_least-requires-2-clause-rising
+first_at_least-requires-2-clause-rising g c = rw c.copy-view.ensures (one_two_three_rise c.of_checked.result c.of_checked.ensures.only)

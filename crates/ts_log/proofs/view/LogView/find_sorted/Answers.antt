@@ -1,28 +1,15 @@
-use Rattle.std.proofs.Common.{◌/◌, ◌+◌, ◌-◌, ◌<◌, get_or, subst, arith}
-use Rattle.ts_log.proofs.RisingLemmas.{below_here, above_here}
+use Rattle.std.proofs.Common.{◌≢◌, ◌<◌, get_or, ◌∙◌, arith}
+use Rattle.ts_log.proofs.RisingLemmas.{absent_from}
 use Rattle.ts_log.proofs.view.LogView.find_sorted.Goals as goal
+use Rattle.ts_log.proofs.view.LogView.find_sorted.Goals.{else-place-to-via-then-place-to+else-get-x, else-place-to-via-else-place-to}
 
-pub loop-low-preserved-then-found-x-2 : goal.loop-low-preserved-then-found-x-2
-loop-low-preserved-then-found-x-2 c =
-    let m = c.loop-low.low + (c.loop-low.high - c.loop-low.low) / 2 in
-    let less : get_or c.args.self.now m 0 < c.args.x = subst (λ y. y < c.args.x) c.get-found.ensures c.if-found-x-2.true in
-    record {
-      begins = omega arith;
-      ordered = omega arith;
-      ends = c.loop-low.invariant.ends;
-      below = below_here c.args.self.now c.args.from c.args.to m c.args.x c.requires.rising (omega arith) less;
-      above = c.loop-low.invariant.above;
-    }
-
-pub loop-low-preserved : goal.loop-low-preserved
-loop-low-preserved c =
-    let m = c.loop-low.low + (c.loop-low.high - c.loop-low.low) / 2 in
-    let found : c.args.x < c.get-found.result = omega arith in
-    let more : c.args.x < get_or c.args.self.now m 0 = subst (λ y. c.args.x < y) c.get-found.ensures found in
-    record {
-      begins = c.loop-low.invariant.begins;
-      ordered = omega arith;
-      ends = omega arith;
-      below = c.loop-low.invariant.below;
-      above = above_here c.args.self.now c.args.from c.args.to m c.args.x c.requires.rising (omega arith) more;
-    }
+pub returns-else-place-to-clause-absent : goal.returns-else-place-to-clause-absent
+returns-else-place-to-clause-absent c =
+    let place = c.first_at_least-place.result in
+    let other : place < c.args.to → get_or c.args.self.now place 0 ≢ c.args.x =
+    elim c.else-place-to.branch [
+      | else-place-to-via-then-place-to+else-get-x w ↦ (λ h same. w.if-get-x.false (w.get.ensures ∙ same))
+      | else-place-to-via-else-place-to w ↦ (λ h. absurd (omega arith))
+    ] in
+    absent_from c.args.self.now c.args.from c.args.to place c.args.x c.requires.rising c.first_at_least-place.ensures.begins
+    c.first_at_least-place.ensures.below c.first_at_least-place.ensures.reached other

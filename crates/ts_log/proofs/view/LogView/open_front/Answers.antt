@@ -1,12 +1,12 @@
-use Rattle.std.proofs.Common.{◌≡◌, ◌-◌, ◌*◌, ◌^◌, length, take, drop, sym, ap, ◌∙◌, subst}
+use Rattle.std.proofs.Common.{◌≡◌, ◌+◌, ◌-◌, ◌*◌, length, take, drop, sym, ap, ◌∙◌}
 use Rattle.std.proofs.lemmas.List.{take_rest}
 use Rattle.ts_log.specs.LogArray.{words_for, packed, width_of}
-use Rattle.ts_log.proofs.GroupsLemmas.{Below, Below-take, Below-drop}
 use Rattle.ts_log.proofs.ElementLemmas.{Below_bytes}
 use Rattle.ts_log.proofs.WidthLemmas.{width_pos}
 use Rattle.ts_log.proofs.ControlLemmas.{same_control}
-use Rattle.ts_log.proofs.SaysLemmas.{front_of_says, width_fits}
-use Rattle.ts_log.proofs.WordsLemmas.{says_here}
+use Rattle.ts_log.proofs.SaysLemmas.{front_of_says, width_fits, only_front}
+use Rattle.ts_log.specs.Groups.{elements_in}
+use Rattle.ts_log.proofs.WordsLemmas.{front_says}
 use Rattle.ts_log.proofs.view.LogView.open_front.Goals as goal
 
 pub returns-in_err-control-clause-none : goal.returns-in_err-control-clause-none
@@ -34,12 +34,16 @@ pub returns-clause-some : goal.returns-clause-some
 returns-clause-some c =
     let found = c.in_ok-control.ensures.some in
     let here = c.in_ok-words.ensures.some in
-    let bytes = c.args.bytes.now in
+    front_says c.in_ok-control.control.width c.in_ok-control.control.count c.args.bytes.now c.in_ok-words.words.now
+    (Below_bytes c.args.bytes.now c.type_inv.bytes) found.0 found.4 found.3 here.0 here.1
+
+pub returns-clause-only : goal.returns-clause-only
+returns-clause-only c =
+    let found = c.in_ok-control.ensures.some in
+    let here = c.in_ok-words.ensures.some in
     let w = c.in_ok-control.control.width in
     let n = c.in_ok-control.control.count in
+    let bytes = c.args.bytes.now in
     let words = c.in_ok-words.words.now in
-    let there : words ≡ take (8 * words_for w n) (drop 16 bytes) = here.0 ∙ ap (take (8 * words_for w n)) (take_rest bytes 16) in
-    let fit : Below (2 ^ 8) words =
-    subst (Below (2 ^ 8)) (sym there)
-    (Below-take (2 ^ 8) (8 * words_for w n) (drop 16 bytes) (Below-drop (2 ^ 8) 16 bytes (Below_bytes bytes c.type_inv.bytes))) in
-    says_here w n bytes words fit found.0 found.4 found.3 there here.1
+    let says = front_says w n bytes words (Below_bytes bytes c.type_inv.bytes) found.0 found.4 found.3 here.0 here.1 in
+    only_front (16 + length words) bytes (elements_in w n words) says.0 says.1

@@ -1,5 +1,5 @@
 use Rattle.std.proofs.Common.{ℕ, ◌-◌, ◌<◌, ◌≤◌, get_or}
-use Rattle.ts_log.proofs.view.LogView.find_sorted.Given as goal
+use Rattle.ts_log.proofs.view.LogView.first_at_least.Given as goal
 
 abbrev pub invariant-loop-low : goal.invariant-loop-low
 invariant-loop-low l = record {
@@ -7,7 +7,7 @@ invariant-loop-low l = record {
   ordered : l.low ≤ l.high;
   ends : l.high ≤ l.to;
   below : (k : ℕ) → l.from ≤ k → k < l.low → get_or l.self k 0 < l.x;
-  above : (k : ℕ) → l.high ≤ k → k < l.to → l.x < get_or l.self k 0;
+  reached : (k : ℕ) → l.high ≤ k → k < l.to → l.x ≤ get_or l.self k 0;
 }
 
 abbrev pub decreases-loop-low : goal.decreases-loop-low

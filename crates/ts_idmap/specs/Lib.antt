@@ -1,0 +1,2 @@
+pub mod IdMap
+pub mod Permutation
