@@ -7,7 +7,8 @@ ghost use Rattle.ts_model.specs.Refused.{IsRefusedAs};
 use crate::canonical_iri::is_iri;
 use crate::canonical_label::is_blank_label;
 use crate::canonical_literal::is_literal;
-use crate::term::{TERM_LIMIT, Term, TermError, TermKind};
+use crate::limits::TERM_LIMIT;
+use crate::term::{Term, TermError, TermKind};
 use std::alloc::Global;
 use std::str;
 

@@ -5,8 +5,8 @@ ghost use Rattle.std.specs.Option.{option_map};
 ghost use Rattle.ts_model.specs.Iri.{IsIri, upper_digit, iri_escape, iri_character};
 ghost use Rattle.ts_model.specs.Delimited.{EndsAt};
 
-use crate::prefix::after_prefix;
 use crate::characters::{is_direct_in_iri, split_char};
+use crate::prefix::after_prefix;
 
 /// Whether a text is the canonical spelling of an IRI.
 pub fn is_iri(text: &str) -> bool

@@ -2,8 +2,8 @@
 ghost use Rattle.std.specs.Prelude.{◌↔◌, IsTrue, chars};
 ghost use Rattle.ts_model.specs.BlankLabel.{IsBlankLabel, IsLabel};
 
-use crate::prefix::after_prefix;
 use crate::label::after_label;
+use crate::prefix::after_prefix;
 
 /// Whether a text is a blank label: BLANK_NODE_LABEL, with this project's classes of characters.
 pub fn is_blank_label(text: &str) -> bool

@@ -6,9 +6,9 @@ ghost use Rattle.ts_model.specs.Literal.{IsLiteral, IsEnding, IsTypeEnding, stri
 ghost use Rattle.ts_model.specs.Delimited.{EndsAt};
 
 use crate::canonical_iri::is_iri;
-use crate::prefix::after_prefix;
 use crate::canonical_tag::is_tag;
 use crate::characters::split_char;
+use crate::prefix::after_prefix;
 
 /// The spelling of the type that is not written.
 const STRING_TYPE: &str = "<http://www.w3.org/2001/XMLSchema#string>";

@@ -8,9 +8,6 @@ use std::cmp::Ordering;
 use std::marker::Model;
 use thiserror::Error;
 
-/// The most bytes of a term's spelling.
-pub const TERM_LIMIT: usize = 1_048_576;
-
 /// What a term is: a node (an IRI or a blank label), a predicate (an IRI) or a value (a literal).
 #[derive(Clone, Copy, PartialEq, Eq, PartialOrd, Ord, Debug)]
 pub enum TermKind {
