@@ -7,6 +7,7 @@
 //! doc names, and that what is written is exactly the triple's line, which reads back as that triple.
 #![tactic(auto)]
 
+pub use line::object_kind;
 pub use read::{LineError, one_reading, read_line, read_term};
 pub use write::{printed_triple_reads_back, write_triple};
 

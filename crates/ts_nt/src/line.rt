@@ -73,7 +73,7 @@ fn split_sign(text: &str) -> (Sign, &str)
 }
 
 /// What an object at the front of a text can be.
-fn object_kind(text: &str) -> TermKind
+pub fn object_kind(text: &str) -> TermKind
     ensures { result ≡ kind_of_object (chars text.now) }
 {
     match after_char(text, '"') {
