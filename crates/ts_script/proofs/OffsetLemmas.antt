@@ -2,7 +2,7 @@
 use Rattle.std.proofs.Common.{◌≡◌, ◌⊎◌, ℕ, ◌+◌, ◌<◌, ◌≤◌, ◌==◌, Bool, true, false, List, [], ◌∷◌, ◌++◌, length, get_or, slice_range, refl, sym, ap, arith, inl, inr, append-nil}
 use Rattle.std.proofs.lemmas.Bool.{ne_eqb}
 use Rattle.ts_script.specs.Lines.{feed_of}
-use Rattle.ts_script.specs.Cutting.{waiting, place_of_next, place_behind}
+use Rattle.ts_script.specs.Cutting.{buffered, next_offset, offset_behind}
 use Rattle.ts_script.specs.declared.cutter.LineCutter.{LineCutter}
 use Rattle.ts_script.proofs.LinesLemmas.{slice_range-first, not_after_return}
 
@@ -31,8 +31,8 @@ pub not_return : (o r : Bool) (i j : ℕ) → (o ≡ true → r ≡ false) → (
 not_return o r i j one settled (inl is) = one is
 not_return o r i j one settled (inr lt) = not_after_return r i j settled lt
 
-pub place-here : (c : LineCutter) → place_behind c [] ≡ place_of_next c
-place-here c = ap (λ (text : List ℕ). c.passed + feed_of c.after_return text) (append-nil (waiting c))
+pub offset-here : (c : LineCutter) → offset_behind c [] ≡ next_offset c
+offset-here c = ap (λ (text : List ℕ). c.passed + feed_of c.after_return text) (append-nil (buffered c))
 
-pub place-rises : (c : LineCutter) (bytes : List ℕ) → place_of_next c ≤ place_behind c bytes
-place-rises c bytes = omega (arith, feed-more c.after_return (waiting c) bytes)
+pub offset-rises : (c : LineCutter) (bytes : List ℕ) → next_offset c ≤ offset_behind c bytes
+offset-rises c bytes = omega (arith, feed-more c.after_return (buffered c) bytes)

@@ -1,10 +1,10 @@
 use Rattle.std.proofs.Common.{refl, arith, ◌+◌, ◌++◌, ◌∙◌, ap, Bool}
 use Rattle.ts_script.proofs.LinesLemmas.{lines_behind-front, not_after_return, is_end-read, no_end-empty}
-use Rattle.ts_script.proofs.PlaceLemmas.{feed-none}
+use Rattle.ts_script.proofs.OffsetLemmas.{feed-none}
 use Rattle.ts_script.proofs.EndLemmas.{first_length-end}
 use Rattle.ts_script.specs.Lines.{first_length}
-use Rattle.ts_script.specs.Cutting.{waiting}
-use Rattle.ts_script.proofs.cutter.LineCutter.give.Goals as goal
+use Rattle.ts_script.specs.Cutting.{buffered}
+use Rattle.ts_script.proofs.cutter.LineCutter.cut_at.Goals as goal
 
 pub returns-clause-gives : goal.returns-clause-gives
 returns-clause-gives c =
@@ -19,11 +19,11 @@ returns-clause-gives c =
       limit = refl;
       number = refl;
       has_ended = refl;
-      place = omega (arith, feed-none old.after_return (waiting old) (not_after_return old.after_return old.start old.end c.requires.settled (omega arith)));
+      offset = omega (arith, feed-none old.after_return (buffered old) (not_after_return old.after_return old.start old.end c.requires.settled (omega arith)));
       end = λ left.
           let settled = not_after_return old.after_return old.start old.end c.requires.settled (omega arith) in
           let read = is_end-read old.buffer.items c.args.at c.index.result.now (omega arith) c.index.ensures c.requires.end in
-          let far = ap (λ (r : Bool). first_length r (waiting old ++ left)) settled
+          let far = ap (λ (r : Bool). first_length r (buffered old ++ left)) settled
           ∙ first_length-end old.buffer.items left old.start c.args.at old.end c.index.result.now (omega arith) (omega arith) (omega arith) c.requires.no_end read c.index.ensures in
           omega (arith, far);
       begins = refl;

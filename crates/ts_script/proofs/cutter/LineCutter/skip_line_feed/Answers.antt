@@ -1,8 +1,8 @@
 use Rattle.std.proofs.Common.{refl, arith}
 use Rattle.ts_script.proofs.LinesLemmas.{settled_feed, settled_other}
-use Rattle.ts_script.proofs.PlaceLemmas.{feed-one, feed-other}
+use Rattle.ts_script.proofs.OffsetLemmas.{feed-one, feed-other}
 use Rattle.ts_script.proofs.EndLemmas.{first_length-feed, first_length-other}
-use Rattle.ts_script.proofs.cutter.LineCutter.settle_return.Goals as goal
+use Rattle.ts_script.proofs.cutter.LineCutter.skip_line_feed.Goals as goal
 
 pub returns-then-index-eq10-clause-keeps : goal.returns-then-index-eq10-clause-keeps
 returns-then-index-eq10-clause-keeps c = record {
@@ -11,7 +11,7 @@ returns-then-index-eq10-clause-keeps c = record {
   limit = refl;
   number = refl;
   has_ended = refl;
-  place = λ left. omega (arith, feed-one c.args.self.now.after_return c.args.self.now.buffer.items left c.args.self.now.start c.args.self.now.end c.index.result.now c.if-self.true (omega arith) (omega arith) c.index.ensures c.if-index-eq10.true);
+  offset = λ left. omega (arith, feed-one c.args.self.now.after_return c.args.self.now.buffer.items left c.args.self.now.start c.args.self.now.end c.index.result.now c.if-self.true (omega arith) (omega arith) c.index.ensures c.if-index-eq10.true);
   end = λ left. omega (arith, first_length-feed c.args.self.now.after_return c.args.self.now.buffer.items left c.args.self.now.start c.args.self.now.end c.index.result.now c.if-self.true (omega arith) (omega arith) c.index.ensures c.if-index-eq10.true);
 }
 
@@ -22,6 +22,6 @@ returns-else-index-eq10-clause-keeps c = record {
   limit = refl;
   number = refl;
   has_ended = refl;
-  place = λ left. omega (arith, feed-other c.args.self.now.after_return c.args.self.now.buffer.items left c.args.self.now.start c.args.self.now.end c.index.result.now c.if-self.true (omega arith) (omega arith) c.index.ensures c.if-index-eq10.false);
+  offset = λ left. omega (arith, feed-other c.args.self.now.after_return c.args.self.now.buffer.items left c.args.self.now.start c.args.self.now.end c.index.result.now c.if-self.true (omega arith) (omega arith) c.index.ensures c.if-index-eq10.false);
   end = λ left. omega (arith, first_length-other c.args.self.now.after_return c.args.self.now.buffer.items left c.args.self.now.start c.args.self.now.end c.index.result.now c.if-self.true (omega arith) (omega arith) c.index.ensures c.if-index-eq10.false);
 }
