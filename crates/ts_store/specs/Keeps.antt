@@ -12,4 +12,4 @@ spent_by session = session.spent
 -- the session isn't spent, and stands for this state
 pub record Keeps (session : Session) (state : State) : Type 0 where
   pub unspent : spent_by session ≡ None
-  pub state : state_of session.layers.items session.last ≡ state
+  pub kept : state_of session.layers.items session.last ≡ state

@@ -98,11 +98,11 @@ fn greatest(layers: &[BaseLayer]) -> u32
 fn build_base(alloc: Global, number: u32, additions: Vec<Triple>) -> Result<NewBase, AllocError>
     requires number { IsLayerNumber number }
     requires rise { IsStrictlySortedBy triple_cmp additions.items }
+    requires triples { All IsTriple additions.items }
     ensures { IfOk result (λ made. (made.loaded.number ≡ number) × IsBaseLayer made.loaded × All IsTriple additions.items
         × (from_list {R = triple_cmp} made.loaded.triples.items ≡ from_list additions.items)
         × (made.file.items ≡ plain_file number None additions.items [])) }
 {
-    are_triples(additions.as_slice());
     let layer = PlainLayer {
         number,
         parent: None,
@@ -112,21 +112,4 @@ fn build_base(alloc: Global, number: u32, additions: Vec<Triple>) -> Result<NewB
     let file = write_plain(alloc, &layer)?;
     let loaded = base_layer_of(number, layer.additions);
     Ok(NewBase { loaded, file })
-}
-
-/// Shows that triples are of terms.
-fn are_triples(triples: &[Triple])
-    ensures { All IsTriple triples.now }
-{
-    for triple in triples {
-        is_triple(triple);
-    }
-}
-
-fn is_triple(triple: &Triple)
-    ensures { IsTriple triple.now }
-{
-    let _subject = triple.subject().spelling();
-    let _predicate = triple.predicate().spelling();
-    let _object = triple.object().spelling();
 }

@@ -13,7 +13,7 @@ pub returns-clause-folder : goal.returns-clause-folder
 returns-clause-folder g c = λ state keeps told.
     let old = (g.W.Disk.outside c.args.site.now).folder in
     let new = (g.W.Disk.outside c.dispatch-done.new.site).folder in
-    subst (λ (s : State). LeavesFolder c.dispatch-done.result s (step_of s c.args.command.now).state old new) keeps.state
+    subst (λ (s : State). LeavesFolder c.dispatch-done.result s (step_of s c.args.command.now).state old new) keeps.kept
     (folder_leaves (state_of c.args.self.now.layers.items c.args.self.now.last) old new c.dispatch-done.result c.args.command.now (c.dispatch-done.ensures.folder told))
 
 pub returns-clause-says : goal.returns-clause-says
@@ -21,8 +21,8 @@ returns-clause-says g c = λ state keeps told says.
     let kept = state_of c.args.self.now.layers.items c.args.self.now.last in
     let old = (g.W.Disk.outside c.args.site.now).folder in
     let new = (g.W.Disk.outside c.dispatch-done.new.site).folder in
-    let before = files_of old kept (subst (FolderSays old) (sym keeps.state) says) in
-    subst (λ (s : State). LeavesState (FolderSays new) c.dispatch-done.result s (step_of s c.args.command.now).state) keeps.state
+    let before = files_of old kept (subst (FolderSays old) (sym keeps.kept) says) in
+    subst (λ (s : State). LeavesState (FolderSays new) c.dispatch-done.result s (step_of s c.args.command.now).state) keeps.kept
     (says_leaves new c.dispatch-done.result kept (step_of kept c.args.command.now).state (c.dispatch-done.ensures.says told before))
 
 pub returns-clause-stands : goal.returns-clause-stands
@@ -30,7 +30,7 @@ returns-clause-stands g c = λ state keeps told stands.
     let kept = state_of c.args.self.now.layers.items c.args.self.now.last in
     let old = (g.W.Disk.outside c.args.site.now).folder in
     let new = (g.W.Disk.outside c.dispatch-done.new.site).folder in
-    let here = subst (Stands old) (sym keeps.state) stands in
+    let here = subst (Stands old) (sym keeps.kept) stands in
     let before = files_of old kept here.says in
-    subst (λ (s : State). LeavesState (Stands new) c.dispatch-done.result s (step_of s c.args.command.now).state) keeps.state
+    subst (λ (s : State). LeavesState (Stands new) c.dispatch-done.result s (step_of s c.args.command.now).state) keeps.kept
     (stands_after kept here.counted old before new c.dispatch-done.result c.args.command.now (c.dispatch-done.ensures.says told before))
