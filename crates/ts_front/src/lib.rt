@@ -34,6 +34,7 @@ mod builder;
 mod check;
 mod compare;
 mod entries;
+mod made;
 mod piece;
 mod view;
 
