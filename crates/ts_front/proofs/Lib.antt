@@ -15,3 +15,4 @@ pub mod IterLemmas
 pub mod BuilderLemmas
 pub mod Vectors
 pub mod PushLemmas
+pub mod WordOrderLemmas
