@@ -99,11 +99,11 @@ first_more starts body pieces texts place last i next piece r many first eight r
     let long : length text ≡ piece.shared + length text = omega (arith, read.3 first) in
     subst (λ n. (all : List (List ℕ)) × ((length all ≡ i + 1) × Reads starts body (set pieces (i % 8) piece) all next n)) long
     (reads_more starts body pieces texts place last i next piece text r many (omega arith) read.0 read.1 (read.2 ∙ head ∙ sym entry)
-      (λ some. ap (λ t. slice_cmp nat_cmp t text) (sym (pieces_whole starts body pieces texts place last i r many first some (omega arith)).1) ∙ fits.1 some)
-      (λ _. fits.0)
-      (subst Fit (sym none) fit_none)
-      (omega (arith, read.3 first))
-      (ap (λ n. take n (made_by (take (i % 8) pieces)) ++ text) (sym (read.3 first))))
+    (λ some. ap (λ t. slice_cmp nat_cmp t text) (sym (pieces_whole starts body pieces texts place last i r many first some (omega arith)).1) ∙ fits.1 some)
+    (λ _. fits.0)
+    (subst Fit (sym none) fit_none)
+    (omega (arith, read.3 first))
+    (ap (λ n. take n (made_by (take (i % 8) pieces)) ++ text) (sym (read.3 first))))
 
 -- another entry more
 pub other_more : (starts body : List ℕ) (pieces : List Piece) (texts : List (List ℕ)) (place last i next : ℕ) (piece : Piece)
@@ -123,9 +123,9 @@ other_more starts body pieces texts place last i next piece r many other eight r
     length-append (take piece.shared old) suffix ∙ ap (λ n. n + length suffix) (length-take-le piece.shared old within) in
     subst (λ n. (all : List (List ℕ)) × ((length all ≡ i + 1) × Reads starts body (set pieces (i % 8) piece) all next n)) long
     (reads_more starts body pieces texts place last i next piece text r many (omega arith) read.0 read.1
-      (read.2 ∙ sym (entry_of_piece texts i piece.shared suffix many other within below))
-      (λ some. made.1)
-      (λ first. absurd (other first))
-      before.0
-      (omega (arith, ap length before.1, within))
-      (ap (λ t. take piece.shared t ++ suffix) (sym before.1)))
+    (read.2 ∙ sym (entry_of_piece texts i piece.shared suffix many other within below))
+    (λ some. made.1)
+    (λ first. absurd (other first))
+    before.0
+    (omega (arith, ap length before.1, within))
+    (ap (λ t. take piece.shared t ++ suffix) (sym before.1)))

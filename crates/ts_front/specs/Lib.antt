@@ -1,4 +1,3 @@
-pub mod Buffer
 pub mod Shared
 pub mod Dictionary
 pub mod Made

@@ -5,7 +5,7 @@ ghost use Rattle.std.specs.Cmp.Lexicographic.{slice_cmp};
 ghost use Rattle.std.specs.Ordering.{nat_cmp};
 ghost use Rattle.std.specs.Int.{w64, to_be_bytes};
 ghost use Rattle.std.specs.declared.cmp.Ordering.TheVariants.{Greater};
-ghost use Rattle.ts_front.specs.Buffer.{Extends};
+ghost use Rattle.ts_log.specs.Buffer.{Extends};
 ghost use Rattle.ts_front.specs.Dictionary.{DictionarySays, DictionarySaysOnly, place_of};
 ghost use Rattle.ts_front.specs.Pieces.{pieces_of, shared_at, suffix_at};
 ghost use Rattle.ts_front.specs.Shared.{text_at};

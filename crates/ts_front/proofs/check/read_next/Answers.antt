@@ -1,4 +1,4 @@
-use Rattle.std.proofs.Common.{◌≡◌, ◌-◌, ◌%◌, ◌<◌, ◌≤◌, ◌==◌, true, false, length, take, drop, sym, ◌∙◌, ap, subst, arith, length-take-le, length-drop}
+use Rattle.std.proofs.Common.{◌≡◌, ◌-◌, ◌%◌, ◌≤◌, ◌==◌, true, false, length, take, drop, sym, ◌∙◌, ap, subst, arith, length-take-le, length-drop}
 use Rattle.ts_front.specs.Shared.{text_at}
 use Rattle.ts_front.specs.Made.{made_by}
 use Rattle.ts_front.specs.Pieces.{FirstBelow}

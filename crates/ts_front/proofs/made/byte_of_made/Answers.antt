@@ -1,4 +1,4 @@
-use Rattle.std.proofs.Common.{◌≡◌, ◌+◌, ◌-◌, ◌<◌, ◌≤◌, ℕ, [], length, take, get_or, arith, refl, sym, ap, subst, ◌∙◌, slice_get, None, rules}
+use Rattle.std.proofs.Common.{◌≡◌, ◌+◌, ◌-◌, ◌<◌, ◌≤◌, ℕ, [], length, take, arith, sym, ap, ◌∙◌, slice_get, None, rules}
 use Rattle.std.proofs.lemmas.List.{take_all}
 use Rattle.ts_front.specs.Made.{made_by}
 use Rattle.ts_front.proofs.MadeLemmas.{get_past, get_before}

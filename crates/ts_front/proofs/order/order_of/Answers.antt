@@ -1,9 +1,9 @@
-use Rattle.std.proofs.Common.{◌≡◌, ◌≢◌, ◌+◌, ◌^◌, ◌≤◌, length, take, drop, sym, ◌∙◌, ap, subst, arith, length-drop}
+use Rattle.std.proofs.Common.{◌≡◌, ◌≢◌, ◌+◌, ◌^◌, ◌≤◌, length, take, drop, sym, ◌∙◌, ap, arith, length-drop}
 use Rattle.std.specs.Cmp.Lexicographic.{slice_cmp}
 use Rattle.std.specs.Ordering.{nat_cmp}
 use Rattle.std.proofs.lemmas.List.{drop-drop}
 use Rattle.ts_log.specs.Groups.{joined}
-use Rattle.ts_log.proofs.GroupsLemmas.{Below, Below-drop}
+use Rattle.ts_log.proofs.GroupsLemmas.{Below-drop}
 use Rattle.ts_log.proofs.ElementLemmas.{Below_bytes}
 use Rattle.ts_front.proofs.WordOrderLemmas.{words_apart, words_same}
 use Rattle.ts_front.proofs.order.order_of.Goals as goal
