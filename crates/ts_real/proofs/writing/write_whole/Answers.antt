@@ -2,6 +2,7 @@ use Rattle.std.proofs.Common.{◌≡◌, ℕ, ◌-◌, ◌≤◌, List, ◌++◌
 use Rattle.std.proofs.lemmas.List.{take_rest}
 use Rattle.std.specs.Io.KnownBytes.{Appends}
 use Rattle.std.proofs.KnownBytes.{Appends-kept, Appends-trans}
+use Rattle.ts_real.specs.Writing.{AppendsFront}
 use lib.Seq.{take-append-le}
 use Rattle.ts_real.proofs.writing.write_whole.Goals as goal
 
@@ -19,7 +20,9 @@ on_err (Err error) holds = holds
 pub returns-in_err-count-clause-front : goal.returns-in_err-count-clause-front
 returns-in_err-count-clause-front g c =
     let (done, split, appended) = c.loop-rest.invariant in
-    on_err _ (length done, subst (Appends _ _) (sym (front_of _ done _ split)) (Appends-kept _ _ _ _ appended c.in_err-count.ensures.bytes))
+    let front : AppendsFront (g.W.Write.contents c.args.out.now) (g.W.Write.contents c.write_some.new.out) c.args.bytes.now =
+    (length done, subst (Appends _ _) (sym (front_of _ done _ split)) (Appends-kept _ _ _ _ appended c.in_err-count.ensures.bytes)) in
+    on_err _ front
 
 pub returns-then-count-eq0-clause-front : goal.returns-then-count-eq0-clause-front
 returns-then-count-eq0-clause-front g c =
