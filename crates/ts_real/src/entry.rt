@@ -20,7 +20,11 @@ pub fn length_of(answer: io::Result<Metadata>) -> io::Result<Option<u64>>
     ensures fault { IfErr answer (λ error. ¬ LeadsNowhere (error_kind error) → result ≡ Err error) }
 {
     match answer {
-        Ok(metadata) => Ok(if metadata.is_file() { Some(metadata.len()) } else { None }),
+        Ok(metadata) => Ok(if metadata.is_file() {
+            Some(metadata.len())
+        } else {
+            None
+        }),
         Err(error) => match error.kind() {
             ErrorKind::NotFound | ErrorKind::NotADirectory | ErrorKind::FilesystemLoop => Ok(None),
             _ => Err(error),
@@ -29,7 +33,9 @@ pub fn length_of(answer: io::Result<Metadata>) -> io::Result<Option<u64>>
 }
 
 /// The name of an entry of the folder. None where a file of the store has no such name, as one that isn't UTF-8.
-pub fn name_of<R: Files + Drop>(entry: io::Result<DirEntry<R, Global>>) -> io::Result<Option<FileName>>
+pub fn name_of<R: Files + Drop>(
+    entry: io::Result<DirEntry<R, Global>>,
+) -> io::Result<Option<FileName>>
     ensures name { IfOk entry (λ entry. IsNameOf (dir_entry_name entry) result) }
     ensures no_text { IfErr entry (λ error. IsNoText error → result ≡ Ok None) }
     ensures fault { IfErr entry (λ error. ¬ IsNoText error → result ≡ Err error) }
