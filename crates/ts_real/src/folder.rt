@@ -1,5 +1,5 @@
 // The calls on the current folder.
-ghost use Rattle.std.specs.Prelude.{◌≡◌, ◌≤◌, IfOk, length};
+ghost use Rattle.std.specs.Prelude.{◌≤◌, IfOk, length};
 ghost use Rattle.ts_site.specs.Folder.{GoesOn};
 
 use crate::entry::{length_of, name_of};
