@@ -4,8 +4,9 @@ ghost use Rattle.ts_site.specs.Folder.{no_files};
 
 use crate::count::counted;
 use crate::folder;
+use crate::writing::write_whole;
 use std::alloc::Global;
-use std::io::ErrorKind;
+use std::io::{ErrorKind, writer};
 use std::rt::Files;
 use ts_site::{Disk, Failed, FileName, ListFail, Site};
 
@@ -106,6 +107,9 @@ impl<R: Files + Print + AllocGlobal + Clone + Drop> Disk for RealSite<R> {
 
 impl<R: Files + Print + AllocGlobal + Clone + Drop> Site for RealSite<R> {
     fn say(&mut self, piece: &[u8]) -> Result<(), Failed> {
-        counted(&mut self.say_faults, self.rt.write_all(piece))
+        counted(
+            &mut self.say_faults,
+            write_whole(&mut writer(&self.rt), piece),
+        )
     }
 }
