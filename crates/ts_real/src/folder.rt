@@ -1,6 +1,6 @@
 // The calls on the current folder.
 ghost use Rattle.std.specs.Prelude.{◌≤◌, IfOk, length};
-ghost use Rattle.ts_site.specs.Folder.{GoesOn};
+ghost use Rattle.ts_site.specs.Folder.{Extends};
 
 use crate::entry::{length_of, name_of};
 use crate::reading::read_all;
@@ -24,7 +24,7 @@ pub fn list<R: Files + AllocGlobal + Clone + Drop>(
     rt: &R,
     into: &mut Vec<FileName>,
 ) -> io::Result<()>
-    ensures { GoesOn into.old.items into.new.items }
+    ensures { Extends into.old.items into.new.items }
 {
     for entry in fs::read_dir(rt, FOLDER)? {
         if let Some(name) = name_of(entry)? {

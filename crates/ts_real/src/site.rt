@@ -1,6 +1,5 @@
 // The current folder and standard output.
-ghost use Rattle.std.specs.Prelude.{◌≡◌, false, []};
-ghost use Rattle.ts_site.specs.Folder.{no_files};
+ghost use Rattle.std.specs.Prelude.{◌≡◌};
 
 use crate::count::counted;
 use crate::folder;
@@ -38,19 +37,9 @@ impl<R: Files + Print + AllocGlobal + Clone + Drop> RealSite<R> {
 }
 
 impl<R: Files + Print + AllocGlobal + Clone + Drop> Disk for RealSite<R> {
-    ghost use Rattle.ts_real.specs.Real.{real_disk_faults, real_say_faults};
+    ghost use Rattle.ts_real.specs.Real.{real_outside};
 
-    ghost tells_folder = { λ site. false };
-
-    ghost now = { λ site. no_files };
-
-    ghost disk_faults = { real_disk_faults };
-
-    ghost tells_output = { λ site. false };
-
-    ghost told = { λ site. [] };
-
-    ghost say_faults = { real_say_faults };
+    ghost outside = { real_outside };
 
     fn list(&mut self, alloc: Global, into: &mut Vec<FileName>) -> Result<(), ListFail> {
         match folder::list(&self.rt, into) {
