@@ -1,7 +1,6 @@
 -- What each stop of a run comes from.
-use Rattle.std.specs.Prelude.{◌≡◌, ◌⊎◌, ℕ, ◌^◌, ◌≤◌, Bool, true, IsTrue, List, drop, length, Option, Some}
+use Rattle.std.specs.Prelude.{◌≡◌, ◌⊎◌, ℕ, ◌^◌, ◌≤◌, Bool, true, false, IsTrue, List, drop, length, Option, None, Some}
 use Rattle.ts_script.specs.Words.{IsNoCommand}
-use Rattle.ts_site.specs.Faults.{Rose}
 use Rattle.ts_site.specs.Folder.{Folder}
 use Rattle.ts_store.specs.declared.stop.Stop.{Stop}
 use Rattle.ts_store.specs.declared.stop.Stop.TheVariants.{Usage, Damaged, DiskFault, InputFault, InputLimit, Memory}
@@ -12,9 +11,14 @@ use Rattle.ts_cli.specs.Outcomes.{IsAfterReading}
 abbrev pub UsageCause : List (List ℕ) → Option Stop → Type 0
 UsageCause words stop = (stop ≡ Some Usage → IsNoCommand words) × (IsNoCommand words → (stop ≡ Some Usage) ⊎ (stop ≡ Some Memory))
 
--- the stop is this fault exactly where the count rose
-abbrev pub Causes : Stop → Option Stop → ℕ → ℕ → Type 0
-Causes fault stop old new = (stop ≡ Some fault → Rose old new) × ((stop ≡ Some fault → ⊥) → new ≡ old)
+-- whether there is a stop that passes the test
+abbrev pub is_stop_and : (Stop → Bool) → Option Stop → Bool
+is_stop_and test None = false
+is_stop_and test (Some stop) = test stop
+
+abbrev pub is_input_fault : Stop → Bool
+is_input_fault InputFault = true
+is_input_fault _ = false
 
 -- a run that came to no answer of its folder
 abbrev pub IsBeforeOpening : Option Stop → Type 0

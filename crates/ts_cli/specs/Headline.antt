@@ -23,14 +23,14 @@ TellsReplies outcome state commands old new =
     ((outcome.done ≡ length commands) × (new ≡ old ++ answers state commands outcome.done) × (outcome.status ≡ (if any_refused state commands then 1 else 0)))
     (λ stop. (n : ℕ) × (new ≡ old ++ (answers state commands outcome.done ++ take n (answer_at state commands outcome.done))))
 
--- the folder stands for the history after the commands that were done; where the disk or the output failed, maybe after one more
+-- the folder stands for the state after the commands that were done; where the disk or the output failed, maybe after one more
 abbrev pub StandsAfterStop : Stop → Folder → State → List Command → ℕ → Type 0
-StandsAfterStop DiskFault folder state commands done = Stands folder (after state commands done).history ⊎ Stands folder (after state commands (done + 1)).history
-StandsAfterStop OutputFault folder state commands done = Stands folder (after state commands done).history ⊎ Stands folder (after state commands (done + 1)).history
-StandsAfterStop stop folder state commands done = Stands folder (after state commands done).history
+StandsAfterStop DiskFault folder state commands done = Stands folder (after state commands done) ⊎ Stands folder (after state commands (done + 1))
+StandsAfterStop OutputFault folder state commands done = Stands folder (after state commands done) ⊎ Stands folder (after state commands (done + 1))
+StandsAfterStop stop folder state commands done = Stands folder (after state commands done)
 
 abbrev pub StandsAfter : Outcome → State → List Command → Folder → Type 0
 StandsAfter outcome state commands folder =
     MatchOption outcome.stop
-    (Stands folder (after state commands outcome.done).history)
+    (Stands folder (after state commands outcome.done))
     (λ stop. StandsAfterStop stop folder state commands outcome.done)

@@ -1,6 +1,6 @@
 pub mod Causes
+pub mod Change
 pub mod Ends
 pub mod Headline
 pub mod Outcomes
-pub mod Scene
 pub mod StopText

@@ -1,15 +1,16 @@
 // One run: words, input and folder to an outcome.
 ghost use Rattle.std.specs.Prelude.{◌≡◌, ◌⊎◌, ◌<◌, ◌^◌, ℕ, List, [], IsTrue, IfOk, IfErr, OnOk, Result, length, map, string_bytes, true, false, None, Some, Err};
-ghost use Rattle.ts_model.specs.History.{History};
-ghost use Rattle.ts_site.specs.Faults.{IsCalm};
+ghost use Rattle.ts_site.specs.Faults.{CountsFault, IsCalm, is_err_and};
 ghost use Rattle.ts_script.specs.Words.{are_base, IsNoCommand};
 ghost use Rattle.ts_store.specs.FolderSays.{IsFirstDamaged};
 ghost use Rattle.ts_store.specs.Stands.{Stands};
-ghost use Rattle.ts_cli.specs.Causes.{Causes, DamagedCause, IsOverLimit, LimitCause, UsageCause};
-ghost use Rattle.ts_cli.specs.Ends.{Asks, Ends, opened};
+ghost use Rattle.ts_store.specs.State.{State};
+ghost use Rattle.ts_store.specs.Stops.{KeepsTelling, is_disk_fault, is_output_fault};
+ghost use Rattle.ts_cli.specs.Causes.{DamagedCause, IsOverLimit, LimitCause, UsageCause, is_input_fault, is_stop_and};
+ghost use Rattle.ts_cli.specs.Change.{change_of};
+ghost use Rattle.ts_cli.specs.Ends.{Asks, Ends};
 ghost use Rattle.ts_cli.specs.Headline.{AreCommands, StandsAfter, TellsReplies};
-ghost use Rattle.ts_cli.specs.Outcomes.{HasStatus, IsAfterReading, IsReadingStop, outcome_of, stop_of};
-ghost use Rattle.ts_cli.specs.Scene.{scene_of};
+ghost use Rattle.ts_cli.specs.Outcomes.{HasStatus, IsAfterReading, IsReadingStop, outcome_of};
 
 use crate::outcome::answered;
 use crate::{Outcome, Stop, stopped};
@@ -32,7 +33,7 @@ fn read_command<S: Source>(alloc: Global, words: &[String], input: &mut S) -> Re
     ensures limit { IsTrue (S.tells input.old) → IfErr result (λ stop. stop ≡ Stop.InputLimit → IsOverLimit (S.left input.old) (S.left input.new)) }
     ensures reads { IfErr result (λ stop. stop ≡ Stop.InputLimit → are_base (map string_bytes words.now) ≡ true) }
     ensures why { IfErr result (λ stop. (stop ≡ Stop.Memory) ⊎ IsReadingStop stop) }
-    ensures counts { Causes Stop.InputFault (stop_of result) (S.faults input.old) (S.faults input.new) }
+    ensures counts { CountsFault (is_err_and is_input_fault result) (S.faults input.old) (S.faults input.new) }
     ensures tells { S.tells input.new ≡ S.tells input.old }
 {
     let Ok(mut cutter) = LineCutter::new(alloc, INPUT_LIMIT) else {
@@ -49,12 +50,13 @@ fn read_command<S: Source>(alloc: Global, words: &[String], input: &mut S) -> Re
 
 /// Opens the folder, and does the step of a command.
 fn step<W: Site>(alloc: Global, site: &mut W, command: &Command) -> Result<Kind, Stop>
-    ensures ends { Ends (scene_of W.tells_folder W.now W.tells_output W.told site.old site.new) (λ asked. asked ≡ command.now) result }
-    ensures damaged { IsTrue (W.tells_folder site.old) → IfErr result (λ stop. (name : List ℕ) → stop ≡ Stop.Damaged name → IsFirstDamaged (W.now site.old) name) }
+    ensures ends { IsTrue (W.outside site.old).tells_folder → Ends (change_of (W.outside site.old) (W.outside site.new)) (λ asked. asked ≡ command.now) result }
+    ensures damaged { IsTrue (W.outside site.old).tells_folder
+        → IfErr result (λ stop. (name : List ℕ) → stop ≡ Stop.Damaged name → IsFirstDamaged (W.outside site.old).folder name) }
     ensures why { IfErr result (λ stop. IsReadingStop stop → ⊥) }
-    ensures tells { (W.tells_folder site.new ≡ W.tells_folder site.old) × (W.tells_output site.new ≡ W.tells_output site.old) }
-    ensures disk { Causes Stop.DiskFault (stop_of result) (W.disk_faults site.old) (W.disk_faults site.new) }
-    ensures output { Causes Stop.OutputFault (stop_of result) (W.say_faults site.old) (W.say_faults site.new) }
+    ensures tells { KeepsTelling (W.outside site.old) (W.outside site.new) }
+    ensures disk { CountsFault (is_err_and is_disk_fault result) (W.outside site.old).disk_faults (W.outside site.new).disk_faults }
+    ensures output { CountsFault (is_err_and is_output_fault result) (W.outside site.old).say_faults (W.outside site.new).say_faults }
 {
     let mut session = Session::open(alloc, site)?;
     session.step(site, command)
@@ -67,35 +69,35 @@ pub fn run<W: Site, S: Source>(
     site: &mut W,
     input: &mut S,
 ) -> Outcome
-    // On a folder that stands for a history, what is told is the replies to the commands that words and input ask for, and the
-    // folder stands for the history after them.
-    ensures replies { (history : History) (commands : List Command) → IsTrue (W.tells_folder site.old) → Stands (W.now site.old) history
+    // On a folder that stands for a state, what is told is the replies to the commands that words and input ask for, and the folder
+    // stands for the state after them.
+    ensures replies { (state : State) (commands : List Command) → state.last ≡ None → IsTrue (W.outside site.old).tells_folder → Stands (W.outside site.old).folder state
         → IsTrue (S.tells input.old) → AreCommands (map string_bytes words.now) (S.left input.old) commands
-        → IsTrue (W.tells_output site.old) → TellsReplies result (opened history) commands (W.told site.old) (W.told site.new) }
-    ensures folder { (history : History) (commands : List Command) → IsTrue (W.tells_folder site.old) → Stands (W.now site.old) history
+        → IsTrue (W.outside site.old).tells_output → TellsReplies result state commands (W.outside site.old).told (W.outside site.new).told }
+    ensures folder { (state : State) (commands : List Command) → state.last ≡ None → IsTrue (W.outside site.old).tells_folder → Stands (W.outside site.old).folder state
         → IsTrue (S.tells input.old) → AreCommands (map string_bytes words.now) (S.left input.old) commands
-        → StandsAfter result (opened history) commands (W.now site.new) }
+        → StandsAfter result state commands (W.outside site.new).folder }
 
     // Each stop but want of memory comes exactly for its cause.
     ensures causes { UsageCause (map string_bytes words.now) result.stop
-        × Causes Stop.DiskFault result.stop (W.disk_faults site.old) (W.disk_faults site.new)
-        × Causes Stop.OutputFault result.stop (W.say_faults site.old) (W.say_faults site.new)
-        × Causes Stop.InputFault result.stop (S.faults input.old) (S.faults input.new)
-        × (IsTrue (W.tells_folder site.old) → DamagedCause (W.now site.old) result.stop)
+        × CountsFault (is_stop_and is_disk_fault result.stop) (W.outside site.old).disk_faults (W.outside site.new).disk_faults
+        × CountsFault (is_stop_and is_output_fault result.stop) (W.outside site.old).say_faults (W.outside site.new).say_faults
+        × CountsFault (is_stop_and is_input_fault result.stop) (S.faults input.old) (S.faults input.new)
+        × (IsTrue (W.outside site.old).tells_folder → DamagedCause (W.outside site.old).folder result.stop)
         × LimitCause (are_base (map string_bytes words.now)) (S.tells input.old) (S.left input.old) (S.left input.new) result.stop }
 
     // Where nothing fails, there is no stop but want of memory.
     ensures complete { (IsNoCommand (map string_bytes words.now) → ⊥)
         → (are_base (map string_bytes words.now) ≡ true → IsTrue (S.tells input.old) × (length (S.left input.old) < 2 ^ 40))
-        → IsTrue (W.tells_folder site.old) → ((name : List ℕ) → IsFirstDamaged (W.now site.old) name → ⊥)
-        → IsCalm (W.disk_faults site.old) (W.disk_faults site.new) → IsCalm (W.say_faults site.old) (W.say_faults site.new)
+        → IsTrue (W.outside site.old).tells_folder → ((name : List ℕ) → IsFirstDamaged (W.outside site.old).folder name → ⊥)
+        → IsCalm (W.outside site.old).disk_faults (W.outside site.new).disk_faults → IsCalm (W.outside site.old).say_faults (W.outside site.new).say_faults
         → IsCalm (S.faults input.old) (S.faults input.new) → (result.stop ≡ None) ⊎ (result.stop ≡ Some Stop.Memory) }
 
-    // The status is that of the answer or the stop. On every folder and input, told or not, the run came to its step or left all
-    // as it was.
+    // The status is that of the answer or the stop. Where the folder is told, the run came to its step or left all as it was, also
+    // where the folder stands for no state and the input isn't told.
     ensures status { HasStatus result }
-    ensures ends { (answer : Result Kind Stop) × (result ≡ outcome_of answer)
-        × Ends (scene_of W.tells_folder W.now W.tells_output W.told site.old site.new) (Asks (map string_bytes words.now) (S.tells input.old) (S.left input.old)) answer }
+    ensures ends { IsTrue (W.outside site.old).tells_folder → (answer : Result Kind Stop) × (result ≡ outcome_of answer)
+        × Ends (change_of (W.outside site.old) (W.outside site.new)) (Asks (map string_bytes words.now) (S.tells input.old) (S.left input.old)) answer }
 
     // Words that are no command touch nothing. The command is read before the folder is opened. Only `base` reads the input, to its
     // end.
@@ -103,7 +105,7 @@ pub fn run<W: Site, S: Source>(
     ensures read_first { (stop : Stop) → result.stop ≡ Some stop → IsReadingStop stop → site.new ≡ site.old }
     ensures read_all { IsTrue (S.tells input.old) → are_base (map string_bytes words.now) ≡ true → IsAfterReading result.stop → S.left input.new ≡ [] }
     ensures unread { are_base (map string_bytes words.now) ≡ false → input.new ≡ input.old }
-    ensures tells { (W.tells_folder site.new ≡ W.tells_folder site.old) × (W.tells_output site.new ≡ W.tells_output site.old) × (S.tells input.new ≡ S.tells input.old) }
+    ensures tells { KeepsTelling (W.outside site.old) (W.outside site.new) × (S.tells input.new ≡ S.tells input.old) }
 {
     match read_command(alloc, words, input) {
         Err(stop) => stopped(stop),

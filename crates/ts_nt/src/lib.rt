@@ -12,13 +12,13 @@ pub use line::object_kind;
 pub use read::{LINE_LIMIT, LineError, one_reading, read_line, read_term};
 pub use write::{printed_triple_reads_back, write_triple};
 
+mod delimited;
 mod front;
 mod items;
 mod line;
-mod verbatim;
-mod delimited;
 mod read;
 mod term;
 #[cfg(test)]
 mod tests;
+mod verbatim;
 mod write;

@@ -5,9 +5,9 @@ ghost use Rattle.std.specs.String.Boundary.{IsSplitPoint};
 ghost use Rattle.ts_nt.specs.Reading.{Finds};
 ghost use Rattle.ts_nt.specs.Terms.{EndingAt, LiteralAt, TermAt, TypeAt, type_ending};
 
+use crate::delimited::{read_iri, read_string};
 use crate::front::after_char;
 use crate::verbatim::{read_label, read_tag};
-use crate::delimited::{read_iri, read_string};
 use std::alloc::{AllocError, Global};
 use ts_model::TermKind;
 

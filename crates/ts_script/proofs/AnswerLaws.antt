@@ -7,6 +7,7 @@ use Rattle.ts_model.specs.declared.signed.SignedTriple.{SignedTriple}
 use Rattle.ts_model.specs.TextTriple.{TextTriple, IsTriple}
 use Rattle.ts_nt.specs.LineRead.{Answers, IsBad, IsReadAs, IsSilent, IsTooLong, IsWithinLimits, Spells}
 use Rattle.ts_nt.proofs.ScalarLaws.{All-chars}
+use Rattle.ts_script.specs.Lines.{line_limit}
 use Rattle.ts_nt.proofs.TripleLaws.{silent_is_none, text_canonical, text_once}
 
 silent_or_spells : (line : List ℕ) (sign : Sign) (triple : TextTriple) → IsSilent line → Spells line sign triple → ⊥
@@ -20,7 +21,7 @@ answer_once line (Some a) (Some b) one other =
     let same = text_once (chars line) a.sign b.sign a.triple b.triple one.1.1 other.1.1 in
     λ i. Some (record { sign = same.0 i; triple = same.1 i })
 
-answered_within : (line : List ℕ) (answer : Option SignedTriple) → Answers line answer → length line ≤ 4194304
+answered_within : (line : List ℕ) (answer : Option SignedTriple) → Answers line answer → length line ≤ line_limit
 answered_within line None read = read.0
 answered_within line (Some signed) read = read.0
 
@@ -41,12 +42,12 @@ bad_or_long line bad (inr (sign, triple, spells, over)) = bad.2 sign triple spel
 
 -- a line has an answer, or is at fault
 pub answered_or_fault : (line : List ℕ) → (IsBad line → ⊥) → (IsTooLong line → ⊥) → ((answer : Option SignedTriple) → Answers line answer → ⊥) → ⊥
-answered_or_fault line not_bad not_long unanswered = by_length (nat_le (length line) 4194304) refl
+answered_or_fault line not_bad not_long unanswered = by_length (nat_le (length line) line_limit) refl
   where
-    by_length : (b : Bool) → nat_le (length line) 4194304 ≡ b → ⊥
+    by_length : (b : Bool) → nat_le (length line) line_limit ≡ b → ⊥
     by_length false t = not_long (inl (leb-false _ _ t))
     by_length true t =
-        let within : length line ≤ 4194304 = leb-true _ _ t in
+        let within : length line ≤ line_limit = leb-true _ _ t in
         not_bad (
           within,
           λ silent. unanswered None (within, silent),

@@ -1,13 +1,13 @@
 -- Lines are one body, or have one first fault.
 use Rattle.std.proofs.Common.{◌≡◌, ◌⊎◌, inl, inr, ℕ, ◌+◌, List, [], ◌∷◌, ◌++◌, length, All, refl, sym, ap, ◌∙◌, subst, arith, append_assoc, append-nil}
-use Rattle.std.specs.Prelude.{flat_map, Option, None, Some, option_to_list}
+use Rattle.std.specs.Prelude.{flat_map, Option, None, Some, option_to_list, Result, Ok, Err}
 use Rattle.std.proofs.lemmas.List.Elements.{All-cons, All-nil}
 use Rattle.ts_model.specs.declared.signed.SignedTriple.{SignedTriple}
 use Rattle.ts_model.specs.TextTriple.{IsTriple}
 use Rattle.ts_nt.specs.LineRead.{Answers, IsBad, IsTooLong}
-use Rattle.ts_script.specs.Body.{AreReadAs, SpellBody, IsFirstFault, IsBaseCommand}
-use Rattle.ts_script.specs.declared.command.Command.{Command}
-use Rattle.ts_script.specs.declared.command.Command.TheVariants as command
+use Rattle.ts_script.specs.Body.{AreReadAs, SpellBody, IsFirstFault, IsBodyRead}
+use Rattle.ts_script.specs.declared.body.BodyFault.{BodyFault}
+use Rattle.ts_script.specs.declared.body.BodyFault.TheVariants.{Bad, TooLong}
 use Rattle.ts_script.proofs.AnswerLaws.{answer_once, bad_unanswered, long_unanswered, bad_or_long, answered_or_fault, read_triple}
 use Rattle.ts_script.proofs.BodyLemmas.{read-more}
 
@@ -84,42 +84,35 @@ bad_or_long_first before lines a b bad long =
     let same = one_fault IsBad IsTooLong bad_fault long_fault before lines a b bad long in
     bad_or_long long.line (subst IsBad same.1 bad.fault) long.fault
 
--- ---- one command
+-- ---- one reading
 
-pub same_base : (before : ℕ) (lines : List (List ℕ)) (a b : Command) → IsBaseCommand before lines a → IsBaseCommand before lines b → a ≡ b
-same_base before lines (command.Base a) (command.Base b) one other = ap command.Base (body_once lines a b one other)
-same_base before lines (command.Base a) (command.BadTriple m) one other = absurd (body_or_fault IsBad IsBad bad_fault bad_fault before lines a m one other)
-same_base before lines (command.Base a) (command.TooLong m) one other = absurd (body_or_fault IsTooLong IsBad long_fault bad_fault before lines a m one other)
-same_base before lines (command.BadTriple n) (command.Base b) one other = absurd (body_or_fault IsBad IsBad bad_fault bad_fault before lines b n other one)
-same_base before lines (command.BadTriple n) (command.BadTriple m) one other = ap command.BadTriple (one_fault IsBad IsBad bad_fault bad_fault before lines n m one other).0
-same_base before lines (command.BadTriple n) (command.TooLong m) one other = absurd (bad_or_long_first before lines n m one other)
-same_base before lines (command.TooLong n) (command.Base b) one other = absurd (body_or_fault IsTooLong IsBad long_fault bad_fault before lines b n other one)
-same_base before lines (command.TooLong n) (command.BadTriple m) one other = absurd (bad_or_long_first before lines m n other one)
-same_base before lines (command.TooLong n) (command.TooLong m) one other = ap command.TooLong (one_fault IsTooLong IsTooLong long_fault long_fault before lines n m one other).0
-same_base before lines (command.Listing at pattern) b one other = absurd one
-same_base before lines (command.Has at triple) b one other = absurd one
-same_base before lines (command.Base a) (command.Listing at pattern) one other = absurd other
-same_base before lines (command.Base a) (command.Has at triple) one other = absurd other
-same_base before lines (command.BadTriple n) (command.Listing at pattern) one other = absurd other
-same_base before lines (command.BadTriple n) (command.Has at triple) one other = absurd other
-same_base before lines (command.TooLong n) (command.Listing at pattern) one other = absurd other
-same_base before lines (command.TooLong n) (command.Has at triple) one other = absurd other
+pub read_once : (before : ℕ) (lines : List (List ℕ)) (a b : Result (List SignedTriple) BodyFault) → IsBodyRead before lines a → IsBodyRead before lines b → a ≡ b
+read_once before lines (Ok a) (Ok b) one other = ap Ok (body_once lines a b one other)
+read_once before lines (Ok a) (Err (Bad m)) one other = absurd (body_or_fault IsBad IsBad bad_fault bad_fault before lines a m one other)
+read_once before lines (Ok a) (Err (TooLong m)) one other = absurd (body_or_fault IsTooLong IsBad long_fault bad_fault before lines a m one other)
+read_once before lines (Err (Bad n)) (Ok b) one other = absurd (body_or_fault IsBad IsBad bad_fault bad_fault before lines b n other one)
+read_once before lines (Err (TooLong n)) (Ok b) one other = absurd (body_or_fault IsTooLong IsBad long_fault bad_fault before lines b n other one)
+read_once before lines (Err (Bad n)) (Err (Bad m)) one other = ap (λ (k : ℕ). Err (Bad k)) (one_fault IsBad IsBad bad_fault bad_fault before lines n m one other).0
+read_once before lines (Err (Bad n)) (Err (TooLong m)) one other = absurd (bad_or_long_first before lines n m one other)
+read_once before lines (Err (TooLong n)) (Err (Bad m)) one other = absurd (bad_or_long_first before lines m n other one)
+read_once before lines (Err (TooLong n)) (Err (TooLong m)) one other = ap (λ (k : ℕ). Err (TooLong k)) (one_fault IsTooLong IsTooLong long_fault long_fault before lines n m one other).0
 
--- ---- no lines without a command
+-- ---- no lines without a reading
 
--- where the lines in front were read, the lines that follow make a command with them
-read_on : (before : ℕ) (front rest : List (List ℕ)) (answers : List (Option SignedTriple)) → AreReadAs front answers → ((asked : Command) → IsBaseCommand before (front ++ rest) asked → ⊥) → ⊥
+-- where the lines in front were read, the lines that follow are read with them
+read_on : (before : ℕ) (front rest : List (List ℕ)) (answers : List (Option SignedTriple)) → AreReadAs front answers
+    → ((read : Result (List SignedTriple) BodyFault) → IsBodyRead before (front ++ rest) read → ⊥) → ⊥
 read_on before front [] answers read none =
-    none (command.Base (flat_map option_to_list answers)) (answers, subst (λ (lines : List (List ℕ)). AreReadAs lines answers) (sym (append-nil front)) read, refl)
+    none (Ok (flat_map option_to_list answers)) (answers, subst (λ (lines : List (List ℕ)). AreReadAs lines answers) (sym (append-nil front)) read, refl)
 read_on before front (line ∷ rest) answers read none =
     answered_or_fault line
-    (λ bad. none (command.BadTriple (before + length front + 1)) (record { front = front; line = line; rest = rest; parts = refl; number = refl; answers = answers; read = read; fault = bad }))
-    (λ long. none (command.TooLong (before + length front + 1)) (record { front = front; line = line; rest = rest; parts = refl; number = refl; answers = answers; read = read; fault = long }))
+    (λ bad. none (Err (Bad (before + length front + 1))) (record { front = front; line = line; rest = rest; parts = refl; number = refl; answers = answers; read = read; fault = bad }))
+    (λ long. none (Err (TooLong (before + length front + 1))) (record { front = front; line = line; rest = rest; parts = refl; number = refl; answers = answers; read = read; fault = long }))
     (λ answer one. read_on before (front ++ line ∷ []) rest (answers ++ answer ∷ []) (read-more front answers line answer read one)
-    (λ asked is. none asked (subst (λ (lines : List (List ℕ)). IsBaseCommand before lines asked) (append_assoc front (line ∷ []) rest) is)))
+    (λ whole is. none whole (subst (λ (lines : List (List ℕ)). IsBodyRead before lines whole) (append_assoc front (line ∷ []) rest) is)))
 
-pub some_base : (before : ℕ) (lines : List (List ℕ)) → ((asked : Command) → IsBaseCommand before lines asked → ⊥) → ⊥
-some_base before lines none = read_on before [] lines [] tt none
+pub some_read : (before : ℕ) (lines : List (List ℕ)) → ((read : Result (List SignedTriple) BodyFault) → IsBodyRead before lines read → ⊥) → ⊥
+some_read before lines none = read_on before [] lines [] tt none
 
 -- ---- triples
 

@@ -4,28 +4,28 @@ use Rattle.std.specs.Prelude.{nat_le, if◌then◌else◌, flat_map, Option, Som
 use Rattle.std.proofs.lemmas.Bool.{leb-false}
 use Rattle.ts_model.specs.declared.signed.SignedTriple.{SignedTriple}
 use Rattle.ts_nt.specs.LineRead.{Answers}
-use Rattle.ts_script.specs.Lines.{Given, given}
+use Rattle.ts_script.specs.Lines.{line_limit, LineView, line_view}
 use Rattle.ts_script.specs.Body.{AreReadAs, SpellBody, IsFirstFault, IsFaultOf}
 use Rattle.ts_script.specs.declared.body.BodyFault.{BodyFault}
 use Rattle.ts_script.specs.declared.body.BodyFault.TheVariants.{Bad, TooLong}
 
-abbrev seen_as : List ℕ → Bool → Given
+abbrev seen_as : List ℕ → Bool → LineView
 seen_as bytes long = record { bytes = bytes; too_long = long }
 
 -- a line that is shown whole is the line
-pub given-whole : (bytes seen : List ℕ) (long : Bool) → given bytes ≡ seen_as seen long → long ≡ false → bytes ≡ seen
-given-whole bytes seen long e is = by_test (nat_le (length bytes) 4194304) e
+pub view-whole : (bytes seen : List ℕ) (long : Bool) → line_view bytes ≡ seen_as seen long → long ≡ false → bytes ≡ seen
+view-whole bytes seen long e is = by_test (nat_le (length bytes) line_limit) e
   where
     by_test : (b : Bool) → (if b then seen_as bytes false else seen_as [] true) ≡ seen_as seen long → bytes ≡ seen
-    by_test true e = ap (λ (line : Given). line.bytes) e
-    by_test false e = absurd (let f : true ≡ false = ap (λ (line : Given). line.too_long) e ∙ is in cc)
+    by_test true e = ap (λ (line : LineView). line.bytes) e
+    by_test false e = absurd (let f : true ≡ false = ap (λ (line : LineView). line.too_long) e ∙ is in cc)
 
 -- a line that isn't shown is over its limit
-pub given-over : (bytes seen : List ℕ) (long : Bool) → given bytes ≡ seen_as seen long → long ≡ true → 4194304 < length bytes
-given-over bytes seen long e is = by_test (nat_le (length bytes) 4194304) refl e
+pub view-over : (bytes seen : List ℕ) (long : Bool) → line_view bytes ≡ seen_as seen long → long ≡ true → line_limit < length bytes
+view-over bytes seen long e is = by_test (nat_le (length bytes) line_limit) refl e
   where
-    by_test : (b : Bool) → nat_le (length bytes) 4194304 ≡ b → (if b then seen_as bytes false else seen_as [] true) ≡ seen_as seen long → 4194304 < length bytes
-    by_test true t e = absurd (let f : false ≡ true = ap (λ (line : Given). line.too_long) e ∙ is in cc)
+    by_test : (b : Bool) → nat_le (length bytes) line_limit ≡ b → (if b then seen_as bytes false else seen_as [] true) ≡ seen_as seen long → line_limit < length bytes
+    by_test true t e = absurd (let f : false ≡ true = ap (λ (line : LineView). line.too_long) e ∙ is in cc)
     by_test false t e = leb-false _ _ t
 
 first_fault-more : (P : List ℕ → Type 0) (before : ℕ) (lines : List (List ℕ)) (bytes : List ℕ) (at : ℕ) → IsFirstFault P before lines at → IsFirstFault P before (lines ++ bytes ∷ []) at

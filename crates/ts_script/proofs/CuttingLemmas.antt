@@ -1,33 +1,33 @@
 -- What several calls on a cutter make together.
 use Rattle.std.proofs.Common.{◌≡◌, ◌+◌, length, ℕ, Bool, true, false, refl, List, [], ◌∷◌, ◌++◌, sym, ◌∙◌, ap, arith, inl, inr, append_assoc, append-nil, length-append}
-use Rattle.ts_script.specs.Lines.{Given}
-use Rattle.ts_script.specs.Cutting.{lines_to_come, place_of_next, place_behind, end_behind, Keeps, GivesWhole, GivesLine, HasEnded, Takes, Took, IsNext}
+use Rattle.ts_script.specs.Lines.{LineView}
+use Rattle.ts_script.specs.Cutting.{lines_to_come, next_offset, offset_behind, end_behind, MeansSame, GivesWhole, GivesLine, HasEnded, Takes, Took, IsNext}
 use Rattle.ts_script.specs.declared.cutter.LineCutter.{LineCutter}
-use Rattle.ts_script.proofs.PlaceLemmas.{place-here, place-rises}
+use Rattle.ts_script.proofs.OffsetLemmas.{offset-here, offset-rises}
 
-pub keeps-whole : (a b c : LineCutter) (line : Given) → Keeps a b → GivesWhole b c line → GivesWhole a c line
+pub keeps-whole : (a b c : LineCutter) (line : LineView) → MeansSame a b → GivesWhole b c line → GivesWhole a c line
 keeps-whole a b c line first second = record {
   lines = λ left. sym (first.lines left) ∙ second.lines left;
   taken = second.taken ∙ first.taken;
   limit = second.limit ∙ first.limit;
   number = omega (arith, first.number, second.number);
   has_ended = second.has_ended ∙ first.has_ended;
-  place = omega (arith, first.place [], place-here a, place-here b, second.place);
+  offset = omega (arith, first.offset [], offset-here a, offset-here b, second.offset);
   end = λ left. second.end left ∙ first.end left;
   begins = second.begins;
 }
 
 -- where the next line begins, once these bytes were taken
-takes-place : (a b : LineCutter) (bytes : List ℕ) → Takes a b bytes → place_of_next b ≡ place_behind a bytes
-takes-place a b bytes takes = sym (place-here b) ∙ takes.place [] ∙ ap (place_behind a) (append-nil bytes)
+takes-offset : (a b : LineCutter) (bytes : List ℕ) → Takes a b bytes → next_offset b ≡ offset_behind a bytes
+takes-offset a b bytes takes = sym (offset-here b) ∙ takes.offset [] ∙ ap (offset_behind a) (append-nil bytes)
 
-pub takes-keeps : (a b c : LineCutter) (bytes : List ℕ) → Takes a b bytes → Keeps b c → Takes a c bytes
+pub takes-keeps : (a b c : LineCutter) (bytes : List ℕ) → Takes a b bytes → MeansSame b c → Takes a c bytes
 takes-keeps a b c bytes first second = record {
   lines = λ more. second.lines more ∙ first.lines more;
   taken = second.taken ∙ first.taken;
   limit = second.limit ∙ first.limit;
   number = second.number ∙ first.number;
-  place = λ more. second.place more ∙ first.place more;
+  offset = λ more. second.offset more ∙ first.offset more;
   end = λ more. second.end more ∙ first.end more;
   ended = λ is. second.has_ended ∙ first.ended is;
 }
@@ -38,35 +38,35 @@ takes-takes a b c xs ys first second = record {
   taken = omega (arith, first.taken, second.taken, length-append xs ys);
   limit = second.limit ∙ first.limit;
   number = second.number ∙ first.number;
-  place = λ more. second.place more ∙ first.place (ys ++ more) ∙ ap (place_behind a) (sym (append_assoc xs ys more));
+  offset = λ more. second.offset more ∙ first.offset (ys ++ more) ∙ ap (offset_behind a) (sym (append_assoc xs ys more));
   end = λ more. second.end more ∙ first.end (ys ++ more) ∙ ap (end_behind a) (sym (append_assoc xs ys more));
   ended = λ is. second.ended (first.ended is);
 }
 
-pub takes-whole : (a b c : LineCutter) (bytes : List ℕ) (line : Given) → Takes a b bytes → GivesWhole b c line → GivesLine a c bytes line
+pub takes-whole : (a b c : LineCutter) (bytes : List ℕ) (line : LineView) → Takes a b bytes → GivesWhole b c line → GivesLine a c bytes line
 takes-whole a b c bytes line first second = record {
   next = inl (λ more. sym (first.lines more) ∙ second.lines more);
   taken = second.taken ∙ first.taken;
   limit = second.limit ∙ first.limit;
   number = omega (arith, first.number, second.number);
-  place = omega (arith, place-rises a bytes, takes-place a b bytes first, second.place);
-  end = sym (place-here c) ∙ second.end [] ∙ first.end [] ∙ ap (end_behind a) (append-nil bytes);
+  offset = omega (arith, offset-rises a bytes, takes-offset a b bytes first, second.offset);
+  end = sym (offset-here c) ∙ second.end [] ∙ first.end [] ∙ ap (end_behind a) (append-nil bytes);
   begins = second.begins;
   ended = λ is. second.has_ended ∙ first.ended is;
 }
 
-next-last : (a b c : LineCutter) (bytes : List ℕ) (line : Given) → Takes a b bytes → IsNext b c [] line → IsNext a c bytes line
+next-last : (a b c : LineCutter) (bytes : List ℕ) (line : LineView) → Takes a b bytes → IsNext b c [] line → IsNext a c bytes line
 next-last a b c bytes line first (inl next) = inl (λ more. sym (first.lines more) ∙ next more)
 next-last a b c bytes line first (inr last) =
     inr (last.0, ap (lines_to_come a) (sym (append-nil bytes)) ∙ sym (first.lines []) ∙ last.1, last.2)
 
-pub takes-last : (a b c : LineCutter) (bytes : List ℕ) (line : Given) → Takes a b bytes → GivesLine b c [] line → GivesLine a c bytes line
+pub takes-last : (a b c : LineCutter) (bytes : List ℕ) (line : LineView) → Takes a b bytes → GivesLine b c [] line → GivesLine a c bytes line
 takes-last a b c bytes line first second = record {
   next = next-last a b c bytes line first second.next;
   taken = omega (arith, first.taken, second.taken);
   limit = second.limit ∙ first.limit;
   number = omega (arith, first.number, second.number);
-  place = omega (arith, place-rises a bytes, takes-place a b bytes first, second.place);
+  offset = omega (arith, offset-rises a bytes, takes-offset a b bytes first, second.offset);
   end = second.end ∙ first.end [] ∙ ap (end_behind a) (append-nil bytes);
   begins = second.begins;
   ended = λ is. second.ended (first.ended is);
@@ -80,14 +80,14 @@ takes-none a b c bytes first second = record {
   taken = omega (arith, first.taken, second.taken);
   limit = second.limit ∙ first.limit;
   number = second.number ∙ first.number;
-  place = second.place ∙ place-here b ∙ takes-place a b bytes first;
+  offset = second.offset ∙ offset-here b ∙ takes-offset a b bytes first;
 }
 
 pub left-left : (whole xs ys rest end : List ℕ) → whole ≡ xs ++ rest → rest ≡ ys ++ end → whole ≡ (xs ++ ys) ++ end
 left-left whole xs ys rest end first second = first ∙ ap (λ text. xs ++ text) second ∙ sym (append_assoc xs ys end)
 
 -- where the source tells what is left, the line is the next of all that is to come
-pub next-line : (cur new : LineCutter) (bytes left rest : List ℕ) (line : Given) → GivesLine cur new bytes line → left ≡ bytes ++ rest → (new.has_ended ≡ true → rest ≡ [])
+pub next-line : (cur new : LineCutter) (bytes left rest : List ℕ) (line : LineView) → GivesLine cur new bytes line → left ≡ bytes ++ rest → (new.has_ended ≡ true → rest ≡ [])
     → lines_to_come cur left ≡ line ∷ lines_to_come new rest
 next-line cur new bytes left rest line gives whole ended = by_next gives.next
   where
@@ -95,7 +95,7 @@ next-line cur new bytes left rest line gives whole ended = by_next gives.next
     by_next (inl next) = ap (lines_to_come cur) whole ∙ next rest
     by_next (inr last) =
         ap (lines_to_come cur) (whole ∙ ap (λ (t : List ℕ). bytes ++ t) (ended last.0) ∙ append-nil bytes)
-        ∙ last.1 ∙ ap (λ (ls : List Given). line ∷ ls) (sym last.2 ∙ ap (lines_to_come new) (sym (ended last.0)))
+        ∙ last.1 ∙ ap (λ (ls : List LineView). line ∷ ls) (sym last.2 ∙ ap (lines_to_come new) (sym (ended last.0)))
 
 pub next-none : (cur new : LineCutter) (bytes left rest : List ℕ) → HasEnded cur new bytes → left ≡ bytes ++ rest → rest ≡ [] → lines_to_come cur left ≡ []
 next-none cur new bytes left rest gives whole ended =

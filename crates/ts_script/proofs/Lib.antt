@@ -1,11 +1,11 @@
 pub mod AnswerLaws
-pub mod AskingLaws
 pub mod BodyLaws
 pub mod BodyLemmas
 pub mod BodySoFar
 pub mod CommandLaws
 pub mod CuttingLemmas
 pub mod EndLemmas
+pub mod HeadLaws
+pub mod HeadLemmas
 pub mod LinesLemmas
-pub mod PlaceLemmas
-pub mod WordsLemmas
+pub mod OffsetLemmas

@@ -5,7 +5,7 @@ use Rattle.std.proofs.Math.Seq.{take-add}
 use Rattle.std.proofs.lemmas.List.{get_or_default, drop-take, take-append-drop}
 use Rattle.std.specs.Prelude.{Option, None, Some, IfSome, IfNone}
 use Rattle.memchr.specs.Find.{IsFirstByte, is_byte2}
-use Rattle.ts_script.specs.Lines.{is_end, HasNoEnd, onto_first, lines_after, given, overlong, seen, lines_behind}
+use Rattle.ts_script.specs.Lines.{line_limit, is_end, HasNoEnd, onto_first, lines_after, line_view, overlong, view_after, lines_behind}
 
 is_false : (b : Bool) → (b ≡ true → ⊥) → b ≡ false
 is_false true h = absurd (h refl)
@@ -89,11 +89,11 @@ onto-shape : (b : ℕ) (text : List ℕ) (lines : List (List ℕ)) → (front : 
 onto-shape b [] lines = onto_first-shape b lines
 onto-shape b (x ∷ text) lines = let later = onto-shape x text lines in (later.0, ap (onto_first b) later.1)
 
-pub long-given : (line : List ℕ) → 4194304 < length line → given line ≡ overlong
-long-given line h = rw (lt-leb (length line) 4194304 h) refl
+pub long-view : (line : List ℕ) → line_limit < length line → line_view line ≡ overlong
+long-view line h = rw (lt-leb (length line) line_limit h) refl
 
-pub short-given : (line : List ℕ) → length line ≤ 4194304 → given line ≡ record { bytes = line; too_long = false }
-short-given line h = rw (le-leb (length line) 4194304 h) refl
+pub short-view : (line : List ℕ) → length line ≤ line_limit → line_view line ≡ record { bytes = line; too_long = false }
+short-view line h = rw (le-leb (length line) line_limit h) refl
 
 -- a range that isn't empty begins with its first byte
 pub slice_range-first : (text : List ℕ) (i j d : ℕ) → i < j → j ≤ length text → slice_range text i j ≡ get_or text i d ∷ slice_range text (i + 1) j
@@ -143,7 +143,7 @@ no_end-found text i j k e lo hi first second =
 -- where an end waits, the next line is up to it
 pub lines_behind-front : (o r : Bool) (text left : List ℕ) (s at e d : ℕ) → r ≡ false → s ≤ at → at < e → e ≤ length text → HasNoEnd (slice_range text s at)
     → is_end d ≡ true → d ≡ get_or text at d
-    → lines_behind o r (slice_range text s e ++ left) ≡ seen o (slice_range text s at) ∷ lines_behind false (d == 13) (slice_range text (at + 1) e ++ left)
+    → lines_behind o r (slice_range text s e ++ left) ≡ view_after o (slice_range text s at) ∷ lines_behind false (d == 13) (slice_range text (at + 1) e ++ left)
 unfolding lines_behind
 lines_behind-front true r text left s at e d is lo lt le none end read =
     rw (
@@ -164,12 +164,12 @@ lines_behind-front false r text left s at e d is lo lt le none end read =
     ) refl
 
 -- without an end, bytes that are more than a line may have make an overlong line
-pub lines_behind-overlong : (r : Bool) (text left : List ℕ) → r ≡ false → HasNoEnd text → 4194304 < length text → lines_behind true false left ≡ lines_behind false r (text ++ left)
+pub lines_behind-overlong : (r : Bool) (text left : List ℕ) → r ≡ false → HasNoEnd text → line_limit < length text → lines_behind true false left ≡ lines_behind false r (text ++ left)
 unfolding lines_behind
 lines_behind-overlong r [] left is none long = absurd (omega arith)
 lines_behind-overlong r (b ∷ text) left is none long =
     let shape = onto-shape b text (lines_after false left) in
-    rw (is, lines-no_end (b ∷ text) left none, shape.1, long-given (b ∷ text ++ shape.0) (omega (arith, length-append text shape.0))) refl
+    rw (is, lines-no_end (b ∷ text) left none, shape.1, long-view (b ∷ text ++ shape.0) (omega (arith, length-append text shape.0))) refl
 
 -- more bytes of an overlong line go, where they have no end
 ignored : (r : Bool) (left : List ℕ) → lines_behind true r left ≡ lines_behind true false left
@@ -181,7 +181,7 @@ unfolding lines_behind
 lines_behind-longer r text left none = rw (lines-no_end text left none, drop-onto text (lines_after false left)) refl
 
 -- what waits without an end and is over the limit may go
-pub lines_behind-gone : (o r : Bool) (text left : List ℕ) → (o ≡ true) ⊎ (4194304 < length text) → (0 < length text → r ≡ false) → HasNoEnd text
+pub lines_behind-gone : (o r : Bool) (text left : List ℕ) → (o ≡ true) ⊎ (line_limit < length text) → (0 < length text → r ≡ false) → HasNoEnd text
     → lines_behind true r left ≡ lines_behind o r (text ++ left)
 lines_behind-gone true r text left over settled none = lines_behind-longer r text left none
 lines_behind-gone false r text left (inl is) settled none = absurd (let e : false ≡ true = is in cc)
@@ -197,20 +197,20 @@ onto-alone b [] = refl
 onto-alone b (x ∷ text) = ap (onto_first b) (onto-alone x text)
 
 -- at the end of the input, what waits is the last line
-pub lines_behind-last : (o r : Bool) (text : List ℕ) → (0 < length text → r ≡ false) → HasNoEnd text → (o ≡ true) ⊎ (0 < length text) → lines_behind o r (text ++ []) ≡ seen o text ∷ []
+pub lines_behind-last : (o r : Bool) (text : List ℕ) → (0 < length text → r ≡ false) → HasNoEnd text → (o ≡ true) ⊎ (0 < length text) → lines_behind o r (text ++ []) ≡ view_after o text ∷ []
 unfolding lines_behind
-lines_behind-last true r text settled none some = rw (lines-no_end text [] none, drop-onto text (lines_after false [])) (ap (λ lines. overlong ∷ map given (drop 1 lines)) (lines_after-nil false))
+lines_behind-last true r text settled none some = rw (lines-no_end text [] none, drop-onto text (lines_after false [])) (ap (λ lines. overlong ∷ map line_view (drop 1 lines)) (lines_after-nil false))
 lines_behind-last false r [] settled none (inl is) = absurd (let e : false ≡ true = is in cc)
 lines_behind-last false r [] settled none (inr some) = absurd (omega arith)
 lines_behind-last false r (b ∷ text) settled none some =
-    rw (settled (omega arith), lines-no_end (b ∷ text) [] none) (ap (λ lines. map given (onto (b ∷ text) lines)) (lines_after-nil false) ∙ ap (map given) (onto-alone b text))
+    rw (settled (omega arith), lines-no_end (b ∷ text) [] none) (ap (λ lines. map line_view (onto (b ∷ text) lines)) (lines_after-nil false) ∙ ap (map line_view) (onto-alone b text))
 
 -- where nothing waits and nothing follows, no line is left
 pub lines_behind-nil : (o r : Bool) (text : List ℕ) (i j : ℕ) → o ≡ false → i ≡ j → lines_behind o r (slice_range text i j ++ []) ≡ []
 unfolding lines_behind
 lines_behind-nil o r text i j is same =
     let none : j - i ≡ 0 = omega arith in
-    rw (is, none) (ap (map given) (lines_after-nil r))
+    rw (is, none) (ap (map line_view) (lines_after-nil r))
 
 pub no_end-empty : (text : List ℕ) (i : ℕ) → HasNoEnd (slice_range text i i)
 no_end-empty text i = let none : i - i ≡ 0 = omega arith in rw none refl
@@ -251,9 +251,9 @@ none_found text None found = no_end_all text found
 none_found text (Some k) found = tt
 
 -- bytes that come behind what waits
-pub waiting-more : (old new more : List ℕ) (at i k : ℕ) → take at new ≡ take at old → i ≤ at
+pub buffered-more : (old new more : List ℕ) (at i k : ℕ) → take at new ≡ take at old → i ≤ at
     → slice_range new i (at + k) ++ more ≡ slice_range old i at ++ (slice_range new at (at + k) ++ more)
-waiting-more old new more at i k same lo =
+buffered-more old new more at i k same lo =
     ap (λ text. text ++ more) (slice_range-split new i at (at + k) lo (omega arith))
     ∙ append_assoc (slice_range new i at) (slice_range new at (at + k)) more
     ∙ ap (λ front. front ++ (slice_range new at (at + k) ++ more)) (slice_range-kept old new at i at same (omega arith))
@@ -265,13 +265,13 @@ taken_front old new room at k front rest =
     rw (far, front, rest) (sym (take-append-drop k old))
 
 -- what waits is the same where the buffer is the same up to its end
-pub waiting-kept : (old new more : List ℕ) (at i : ℕ) → take at new ≡ take at old → slice_range new i at ++ more ≡ slice_range old i at ++ more
-waiting-kept old new more at i same = ap (λ text. text ++ more) (slice_range-kept old new at i at same (omega arith))
+pub buffered-kept : (old new more : List ℕ) (at i : ℕ) → take at new ≡ take at old → slice_range new i at ++ more ≡ slice_range old i at ++ more
+buffered-kept old new more at i same = ap (λ text. text ++ more) (slice_range-kept old new at i at same (omega arith))
 
 pub no_end-kept : (old new : List ℕ) (at i j : ℕ) → take at new ≡ take at old → j ≤ at → HasNoEnd (slice_range old i j) → HasNoEnd (slice_range new i j)
 no_end-kept old new at i j same le none = rw (slice_range-kept old new at i j same le) none
 
 -- before anything was taken, the lines to come are those of the input
-pub lines_behind-fresh : (text left : List ℕ) → lines_behind false false (slice_range text 0 0 ++ left) ≡ map given (lines_after false left)
+pub lines_behind-fresh : (text left : List ℕ) → lines_behind false false (slice_range text 0 0 ++ left) ≡ map line_view (lines_after false left)
 unfolding lines_behind
 lines_behind-fresh text left = refl

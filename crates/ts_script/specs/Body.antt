@@ -1,12 +1,10 @@
 -- What the lines of a body spell.
-use Rattle.std.specs.Prelude.{◌≡◌, ℕ, ◌+◌, List, [], ◌∷◌, ◌++◌, length, flat_map, Option, None, Some, option_to_list}
+use Rattle.std.specs.Prelude.{◌≡◌, ℕ, ◌+◌, List, [], ◌∷◌, ◌++◌, length, flat_map, Option, None, Some, option_to_list, Result, Ok, Err}
 use Rattle.ts_model.specs.declared.signed.SignedTriple.{SignedTriple}
 use Rattle.ts_nt.specs.LineRead.{Answers, IsRefusedFor}
 use Rattle.ts_nt.specs.declared.read.LineError.TheVariants as line_error
 use Rattle.ts_script.specs.declared.body.BodyFault.{BodyFault}
 use Rattle.ts_script.specs.declared.body.BodyFault.TheVariants.{Bad, TooLong}
-use Rattle.ts_script.specs.declared.command.Command.{Command}
-use Rattle.ts_script.specs.declared.command.Command.TheVariants as command
 
 -- each line is read as its answer: nothing, or a signed triple
 abbrev pub AreReadAs : List (List ℕ) → List (Option SignedTriple) → Type 0
@@ -36,10 +34,7 @@ IsFaultOf before lines body None = SpellBody lines body
 IsFaultOf before lines body (Some (Bad number)) = IsFirstFault (λ line. IsRefusedFor line line_error.Bad) before lines number
 IsFaultOf before lines body (Some (TooLong number)) = IsFirstFault (λ line. IsRefusedFor line line_error.TooLong) before lines number
 
--- the command `base` with a body of these lines
-abbrev pub IsBaseCommand : ℕ → List (List ℕ) → Command → Type 0
-IsBaseCommand before lines (command.Base body) = SpellBody lines body
-IsBaseCommand before lines (command.BadTriple number) = IsFirstFault (λ line. IsRefusedFor line line_error.Bad) before lines number
-IsBaseCommand before lines (command.TooLong number) = IsFirstFault (λ line. IsRefusedFor line line_error.TooLong) before lines number
-IsBaseCommand before lines (command.Listing at pattern) = ⊥
-IsBaseCommand before lines (command.Has at triple) = ⊥
+-- what the lines are read as: a body, or the first fault of one
+abbrev pub IsBodyRead : ℕ → List (List ℕ) → Result (List SignedTriple) BodyFault → Type 0
+IsBodyRead before lines (Ok body) = IsFaultOf before lines body None
+IsBodyRead before lines (Err fault) = IsFaultOf before lines [] (Some fault)

@@ -6,6 +6,10 @@ use Rattle.std.specs.List.{list_any}
 abbrev pub line_limit : ℕ
 line_limit = 4194304
 
+-- how many bytes a cutter buffers: a line, and a piece of the input behind it
+abbrev pub buffer_size : ℕ
+buffer_size = line_limit + 65536
+
 -- a line feed or a carriage return
 abbrev pub is_end : ℕ → Bool
 is_end b = (b == 10) || (b == 13)
@@ -47,26 +51,26 @@ first_length after_return (b ∷ text) =
     else if b == 10 then (if after_return then 1 + first_length false text else 1)
     else 1 + first_length false text
 
--- a line as it is given: without its bytes where it is over the limit
-pub record Given : Type 0 where
+-- what a cutter lends of a line: not its bytes where it is over the limit
+pub record LineView : Type 0 where
   pub bytes : List ℕ
   pub too_long : Bool
 
-abbrev pub given : List ℕ → Given
-given line = if nat_le (length line) line_limit then record { bytes = line; too_long = false } else record { bytes = []; too_long = true }
+abbrev pub line_view : List ℕ → LineView
+line_view line = if nat_le (length line) line_limit then record { bytes = line; too_long = false } else record { bytes = []; too_long = true }
 
-abbrev pub overlong : Given
+abbrev pub overlong : LineView
 overlong = record { bytes = []; too_long = true }
 
--- the same, where the front of the line went before if it was over the limit
-abbrev pub seen : Bool → List ℕ → Given
-seen is_overlong line = if is_overlong then overlong else given line
+-- the same, where the front of the line was discarded if it was over the limit
+abbrev pub view_after : Bool → List ℕ → LineView
+view_after is_overlong line = if is_overlong then overlong else line_view line
 
--- The lines as they are given, where these bytes follow. Of an overlong line the front went before, more than a
--- line may have, so it ends with the first end that follows.
-unfoldable pub lines_behind : Bool → Bool → List ℕ → List Given
+-- What is lent of the lines, where these bytes follow. Of an overlong line the front was discarded, more than a line
+-- may have, so it ends with the first end that follows.
+unfoldable pub lines_behind : Bool → Bool → List ℕ → List LineView
 lines_behind is_overlong after_return text =
-    if is_overlong then overlong ∷ map given (drop 1 (lines_of text)) else map given (lines_after after_return text)
+    if is_overlong then overlong ∷ map line_view (drop 1 (lines_of text)) else map line_view (lines_after after_return text)
 
 -- `ab`, the three ends, a line between two ends, and `c` without an end
 lines-example : lines_of (97 ∷ 98 ∷ 10 ∷ 13 ∷ 10 ∷ 13 ∷ 10 ∷ 10 ∷ 99 ∷ []) ≡ (97 ∷ 98 ∷ []) ∷ [] ∷ [] ∷ [] ∷ (99 ∷ []) ∷ []

@@ -1,24 +1,19 @@
--- What words ask for.
-use Rattle.std.specs.Prelude.{◌≡◌, ◌⊎◌, ℕ, ◌^◌, ◌<◌, ◌≤◌, Bool, true, false, List, [], ◌∷◌, length, codes, None}
-use Rattle.std.specs.Str.{bytes_eq}
+-- What a word of a command names.
+use Rattle.std.specs.Prelude.{◌≡◌, ℕ, ◌^◌, ◌<◌, ◌≤◌, List, length, codes, map, None}
+use Rattle.std.specs.Borrow.{Bor}
 use Rattle.ts_model.specs.declared.pattern.Pattern.{Pattern}
-use Rattle.ts_model.specs.TextTriple.{HasKinds}
+use Rattle.ts_model.specs.TextTriple.{TextTriple, HasKinds}
 use Rattle.ts_model.specs.LayerText.{layer_text}
 use Rattle.ts_model.specs.TextTerm.{TextTerm}
 use Rattle.ts_nt.specs.LineRead.{SpellsTerm}
-use Rattle.ts_script.specs.Body.{IsBaseCommand}
 use Rattle.ts_script.specs.declared.command.LayerRef.{LayerRef}
 use Rattle.ts_script.specs.declared.command.LayerRef.TheVariants.{Number, Last}
 use Rattle.ts_script.specs.declared.command.Ref.{Ref}
 use Rattle.ts_script.specs.declared.command.Ref.TheVariants.{Layer}
-use Rattle.ts_script.specs.declared.command.Command.{Command}
-use Rattle.ts_script.specs.declared.command.Command.TheVariants as command
 
--- the word `base` alone
-abbrev pub are_base : List (List ℕ) → Bool
-are_base [] = false
-are_base (word ∷ []) = bytes_eq word (codes "base")
-are_base (word ∷ other ∷ words) = false
+-- the texts of borrowed words
+abbrev pub texts : List (Bor (List ℕ)) → List (List ℕ)
+texts words = map (λ word. word.now) words
 
 -- the word of a layer: `last`, or its number as 8 digits
 abbrev pub layer_word : LayerRef → List ℕ
@@ -36,24 +31,13 @@ IsRefWord word (Layer layer) = IsLayerWord word layer
 abbrev pub IsTermWord : List ℕ → TextTerm → Type 0
 IsTermWord word term = SpellsTerm word term.kind term.spelling × (length term.spelling ≤ 1048576)
 
--- no term is given
-abbrev pub IsOpen : Pattern → Type 0
-IsOpen pattern = (pattern.subject ≡ None) × (pattern.predicate ≡ None) × (pattern.object ≡ None)
+-- the three words spell the terms of this triple
+pub record SpellTriple (s p o : List ℕ) (triple : TextTriple) : Type 0 where
+  pub kinds : HasKinds triple.subject triple.predicate triple.object
+  pub subject : IsTermWord s triple.subject
+  pub predicate : IsTermWord p triple.predicate
+  pub object : IsTermWord o triple.object
 
--- the words are this command, which has no body: `list REF`, or `has REF s p o`
-abbrev pub AsksFor : List (List ℕ) → Command → Type 0
-AsksFor words (command.Listing at pattern) = (word : List ℕ) × (words ≡ codes "list" ∷ word ∷ []) × IsRefWord word at × IsOpen pattern
-AsksFor words (command.Has at triple) =
-    (word s p o : List ℕ) × (words ≡ codes "has" ∷ word ∷ s ∷ p ∷ o ∷ []) × IsRefWord word at
-    × HasKinds triple.subject triple.predicate triple.object × IsTermWord s triple.subject × IsTermWord p triple.predicate × IsTermWord o triple.object
-AsksFor words (command.Base body) = ⊥
-AsksFor words (command.BadTriple line) = ⊥
-AsksFor words (command.TooLong line) = ⊥
-
--- the words, and the lines that follow as a body where they have one, are this command
-abbrev pub IsCommand : List (List ℕ) → ℕ → List (List ℕ) → Command → Type 0
-IsCommand words before lines asked = ((are_base words ≡ true) × IsBaseCommand before lines asked) ⊎ AsksFor words asked
-
--- the words are no command, whatever follows
-abbrev pub IsNoCommand : List (List ℕ) → Type 0
-IsNoCommand words = (are_base words ≡ false) × ((asked : Command) → AsksFor words asked → ⊥)
+-- the pattern that every triple fits
+abbrev pub unbound : Pattern
+unbound = record { subject = None; predicate = None; object = None }

@@ -1,12 +1,13 @@
 // The body of a command, read from the lines of the input.
 ghost use Rattle.std.specs.Prelude.{◌≡◌, ◌+◌, ◌≤◌, ◌<◌, ◌++◌, ◌∷◌, [], ℕ, List, length, IsTrue, OnOk, IfOk, IfErr, true, false, map};
 ghost use Rattle.ts_site.specs.Telling.{Tells};
-ghost use Rattle.ts_script.specs.Lines.{given};
-ghost use Rattle.ts_script.specs.Body.{IsBaseCommand};
-ghost use Rattle.ts_script.specs.Cutting.{lines_to_come, Took, HasSeenAll};
-ghost use Rattle.ts_script.specs.Stops.{CountsScriptStop};
+ghost use Rattle.ts_script.specs.Lines.{line_view};
+ghost use Rattle.ts_site.specs.Faults.{CountsFault, is_err_and};
+ghost use Rattle.ts_script.specs.Body.{IsBodyRead};
+ghost use Rattle.ts_script.specs.Cutting.{lines_to_come, progress, IsAtLimit, Took, HasSeenAll};
+ghost use Rattle.ts_script.specs.StopFaults.{is_script_fault};
 
-use crate::{Body, Command, Line, LineCutter, ScriptStop};
+use crate::{Body, Line, LineCutter, ScriptStop};
 use std::alloc::{AllocError, Global};
 use ts_model::SignedTriple;
 use ts_nt::{LineError, read_line};
@@ -14,7 +15,7 @@ use ts_site::Source;
 
 /// Why a line of a body is at fault. Its number.
 #[derive(Clone, Copy, Debug)]
-enum BodyFault {
+pub(crate) enum BodyFault {
     /// It is no line of a triple.
     Bad(u64),
     /// It or one of its terms is over its limit.
@@ -30,7 +31,7 @@ struct BodySoFar {
 
 impl BodySoFar {
     ghost use Rattle.ts_script.specs.Body.{IsFaultOf};
-    ghost use Rattle.ts_script.specs.Cutting.{shown};
+    ghost use Rattle.ts_script.specs.Cutting.{view_of};
 
     /// No line so far.
     fn new(alloc: Global) -> BodySoFar
@@ -44,7 +45,7 @@ impl BodySoFar {
 
     /// Reads one more line. After the first line at fault each line is passed over.
     fn add(&mut self, alloc: Global, line: &Line<'_>) -> Result<(), AllocError>
-        ensures { (before : ℕ) (lines : List (List ℕ)) (bytes : List ℕ) → given bytes ≡ shown line.now → line.now.number ≡ before + length lines + 1
+        ensures { (before : ℕ) (lines : List (List ℕ)) (bytes : List ℕ) → line_view bytes ≡ view_of line.now → line.now.number ≡ before + length lines + 1
             → IsFaultOf before lines self.old.signed.items self.old.fault
             → OnOk result (IsFaultOf before (lines ++ bytes ∷ []) self.new.signed.items self.new.fault) }
     {
@@ -66,41 +67,35 @@ impl BodySoFar {
         Ok(())
     }
 
-    /// The command `base` with this body.
-    fn into_base(self) -> Command
-        ensures { (before : ℕ) (lines : List (List ℕ)) → IsFaultOf before lines self.signed.items self.fault → IsBaseCommand before lines result }
+    /// What the lines are read as.
+    fn into_read(self) -> Result<Body, BodyFault>
+        ensures { (before : ℕ) (lines : List (List ℕ)) → IsFaultOf before lines self.signed.items self.fault → IsBodyRead before lines result }
     {
         match self.fault {
-            None => Command::Base {
-                body: Body::of(self.signed),
-            },
-            Some(BodyFault::Bad(line)) => Command::BadTriple { line },
-            Some(BodyFault::TooLong(line)) => Command::TooLong { line },
+            None => Ok(Body::of(self.signed)),
+            Some(fault) => Err(fault),
         }
     }
 }
 
-/// The command `base` with the lines that are left as its body, all of them.
-pub(crate) fn read_base<S: Source>(
+/// The body that the lines are that are left, all of them, or the first fault of one.
+pub(crate) fn read_body<S: Source>(
     alloc: Global,
     cutter: &mut LineCutter,
     input: &mut S,
-) -> Result<Command, ScriptStop>
-    ensures base { IsTrue (S.tells input.old) → HasSeenAll cutter.old (S.left input.old) → (lines : List (List ℕ)) → lines_to_come cutter.old (S.left input.old) ≡ map given lines
-        → IfOk result (IsBaseCommand cutter.old.number lines) }
-    ensures some { IfOk result (λ command. (lines : List (List ℕ)) × IsBaseCommand cutter.old.number lines command) }
+) -> Result<Result<Body, BodyFault>, ScriptStop>
+    ensures body { IsTrue (S.tells input.old) → HasSeenAll cutter.old (S.left input.old) → (lines : List (List ℕ)) → lines_to_come cutter.old (S.left input.old) ≡ map line_view lines
+        → IfOk result (IsBodyRead (progress cutter.old).lines lines) }
+    ensures some { IfOk result (λ read. (lines : List (List ℕ)) × IsBodyRead (progress cutter.old).lines lines read) }
     ensures all { IsTrue (S.tells input.old) → HasSeenAll cutter.old (S.left input.old) → OnOk result (S.left input.new ≡ []) }
     ensures taken { Tells (S.tells input.old) (S.tells input.new) ((bytes : List ℕ) × Took cutter.old cutter.new bytes × (S.left input.old ≡ bytes ++ S.left input.new)) }
-    ensures short { OnOk result (cutter.new.taken < cutter.new.limit) }
-    ensures limited { IfErr result (λ stop. stop ≡ ScriptStop.Limit → cutter.new.taken ≡ cutter.new.limit) }
-    ensures counts { CountsScriptStop result (S.faults input.old) (S.faults input.new) }
+    ensures short { OnOk result ((progress cutter.new).taken < (progress cutter.new).limit) }
+    ensures limited { IfErr result (λ stop. stop ≡ ScriptStop.Limit → IsAtLimit cutter.new) }
+    ensures counts { CountsFault (is_err_and is_script_fault result) (S.faults input.old) (S.faults input.new) }
 {
     let mut body = BodySoFar::new(alloc);
-    loop {
-        match cutter.next(input) {
-            Ok(Some(line)) => body.add(alloc, &line)?,
-            Ok(None) => return Ok(body.into_base()),
-            Err(stop) => return Err(stop.into()),
-        }
+    while let Some(line) = cutter.next(input)? {
+        body.add(alloc, &line)?;
     }
+    Ok(body.into_read())
 }

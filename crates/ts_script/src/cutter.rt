@@ -1,8 +1,8 @@
 // The lines of an input, one at a time.
 ghost use Rattle.std.specs.Prelude.{◌≡◌, ◌≢◌, ◌⊎◌, ◌+◌, ◌-◌, ◌≤◌, ◌<◌, ℕ, List, [], ◌∷◌, ◌++◌, length, map, take, drop, slice_index, slice_range, IsTrue, IfSome, IfNone, IfOk, MatchResult, is_err, true, false, vec_len};
-ghost use Rattle.ts_script.specs.Lines.{HasNoEnd, is_end, seen, given, lines_of, feed_of};
-ghost use Rattle.ts_site.specs.Faults.{CountsFault};
-ghost use Rattle.ts_script.specs.Stops.{CountsStop};
+ghost use Rattle.ts_script.specs.Lines.{line_limit, buffer_size, HasNoEnd, is_end, view_after, line_view, lines_of, feed_of};
+ghost use Rattle.ts_site.specs.Faults.{CountsFault, is_err_and};
+ghost use Rattle.ts_script.specs.StopFaults.{is_input_fault};
 ghost use Rattle.ts_site.specs.Telling.{Tells};
 ghost use Rattle.ts_site.specs.Source.{Takes as TakesBytes};
 ghost use Rattle.std.specs.Borrow.{sem};
@@ -62,8 +62,8 @@ pub struct LineCutter {
     has_ended: bool,
     ghost ordered: { start ≤ scanned },
     ghost reached: { scanned ≤ end },
-    ghost in_room: { end ≤ 4259840 },
-    ghost room: { vec_len buffer ≡ 4259840 },
+    ghost in_room: { end ≤ buffer_size },
+    ghost room: { vec_len buffer ≡ buffer_size },
     ghost numbered: { number ≤ passed },
     ghost counted: { passed + (end - start) ≤ taken },
     ghost within: { taken ≤ limit },
@@ -76,7 +76,7 @@ pub struct LineCutter {
     ghost one_of_two: { is_overlong ≡ true → after_return ≡ false },
 }
 
-/// The place of the first end of a line.
+/// The index of the first end of a line.
 fn find_end(text: &[u8]) -> Option<usize>
     ensures within { IfSome result (λ k. k < length text.now) }
     ensures before { IfSome result (λ k. HasNoEnd (take k text.now)) }
@@ -86,10 +86,10 @@ fn find_end(text: &[u8]) -> Option<usize>
     memchr2(b'\n', b'\r', text)
 }
 
-/// Where the line between two places lies, which is not shown where it is over the limit.
+/// The span of the line between two indices, empty where the line is over the limit.
 fn span_of(is_overlong: bool, from: usize, at: usize) -> Span
     requires { from ≤ at }
-    ensures line { (text : List ℕ) → at ≤ length text → record { bytes = slice_range text result.from result.to; too_long = result.too_long } ≡ seen is_overlong (slice_range text from at) }
+    ensures line { (text : List ℕ) → at ≤ length text → record { bytes = slice_range text result.from result.to; too_long = result.too_long } ≡ view_after is_overlong (slice_range text from at) }
     ensures ordered { result.from ≤ result.to }
     ensures within { result.to ≤ at }
 {
@@ -108,7 +108,7 @@ fn span_of(is_overlong: bool, from: usize, at: usize) -> Span
     }
 }
 
-/// Takes bytes into the room from a place on.
+/// Takes bytes into the room from an index on.
 fn take_at<S: Source>(
     input: &mut S,
     room: &mut [u8],
@@ -127,7 +127,7 @@ fn take_at<S: Source>(
     input.take(window)
 }
 
-/// The same into a buffer.
+/// Takes bytes into a buffer from an index on.
 fn take_into<S: Source>(
     input: &mut S,
     buffer: &mut Vec<u8>,
@@ -146,21 +146,21 @@ fn take_into<S: Source>(
     take_at(input, buffer, at, most)
 }
 
-/// How many line feeds wait that belong to the end of the line before: one or none.
-fn feed(after_return: bool, waiting: &[u8]) -> u64
-    ensures value { result ≡ feed_of after_return waiting.now }
-    ensures within { result ≤ length waiting.now }
+/// How many of the buffered bytes belong to the end of the line before: a line feed at the front, or none.
+fn skipped_length(after_return: bool, buffered: &[u8]) -> u64
+    ensures value { result ≡ feed_of after_return buffered.now }
+    ensures within { result ≤ length buffered.now }
 {
     if !after_return {
         return 0;
     }
-    match waiting {
+    match buffered {
         [b'\n', ..] => 1,
         _ => 0,
     }
 }
 
-/// Moves the bytes between two places to the front.
+/// Moves the bytes between two indices to the front.
 fn to_front(buffer: &mut [u8], start: usize, end: usize)
     requires ordered { start ≤ end }
     requires inside { end ≤ length buffer.old }
@@ -170,12 +170,12 @@ fn to_front(buffer: &mut [u8], start: usize, end: usize)
 }
 
 impl LineCutter {
-    ghost use Rattle.ts_script.specs.Cutting.{waiting, lines_to_come, Keeps, HasNoLine, GivesWhole, GivesLine, HasEnded, Takes, NextIs, Fills, Stops, IsFresh, line_at, shown, place_of_next};
+    ghost use Rattle.ts_script.specs.Cutting.{progress, buffered, lines_to_come, MeansSame, HasNoWholeLine, GivesWhole, GivesLine, HasEnded, Takes, NextIs, Fills, IsFresh, view_at, view_of, next_offset};
     ghost use Rattle.ts_script.specs.contracts.cutter.LineCutter.{the_row};
 
     /// A cutter that takes at most `limit` bytes. It takes all the memory that it will need.
     pub fn new(alloc: Global, limit: u64) -> Result<LineCutter, AllocError>
-        ensures lines { IfOk result (λ cutter. (left : List ℕ) → lines_to_come cutter left ≡ map given (lines_of left)) }
+        ensures lines { IfOk result (λ cutter. (left : List ℕ) → lines_to_come cutter left ≡ map line_view (lines_of left)) }
         ensures fresh { IfOk result (λ cutter. IsFresh cutter limit) }
     {
         Ok(LineCutter {
@@ -193,9 +193,9 @@ impl LineCutter {
         })
     }
 
-    /// Lets the line feed go that belongs to the end of the line before.
-    fn settle_return(&mut self)
-        ensures keeps { Keeps self.old self.new }
+    /// Skips a line feed that belongs to the end of the line before.
+    fn skip_line_feed(&mut self)
+        ensures keeps { MeansSame self.old self.new }
         ensures settled { self.new.after_return ≡ true → self.new.start ≡ self.new.end }
     {
         if self.after_return && self.start < self.end {
@@ -208,16 +208,16 @@ impl LineCutter {
         }
     }
 
-    /// The line up to an end, which waits at this place.
-    fn give(&mut self, at: usize) -> Span
+    /// Cuts the line up to an end, which is buffered at this index.
+    fn cut_at(&mut self, at: usize) -> Span
         requires after { self.old.scanned ≤ at }
         requires before { at < self.old.end }
         requires settled { self.old.after_return ≡ true → self.old.start ≡ self.old.end }
         requires no_end { HasNoEnd (slice_range self.old.buffer.items self.old.start at) }
         requires end { is_end (slice_index self.old.buffer.items at) ≡ true }
-        ensures gives { GivesWhole self.old self.new (line_at self.new result) }
+        ensures gives { GivesWhole self.old self.new (view_at self.new result) }
         ensures in_buffer { result.from ≤ result.to }
-        ensures in_room { result.to ≤ 4259840 }
+        ensures in_room { result.to ≤ buffer_size }
     {
         let span = span_of(self.is_overlong, self.start, at);
         self.after_return = self.buffer[at] == b'\r';
@@ -229,12 +229,12 @@ impl LineCutter {
         span
     }
 
-    /// Keeps nothing of a line that is over the limit, where no end waits.
-    fn let_go(&mut self)
+    /// MeansSame nothing of a line that is over the limit, where no end waits.
+    fn discard_overlong(&mut self)
         requires settled { self.old.after_return ≡ true → self.old.start ≡ self.old.end }
-        requires no_end { HasNoEnd (waiting self.old) }
-        ensures keeps { Keeps self.old self.new }
-        ensures none { HasNoLine self.new }
+        requires no_end { HasNoEnd (buffered self.old) }
+        ensures keeps { MeansSame self.old self.new }
+        ensures none { HasNoWholeLine self.new }
     {
         self.scanned = self.end;
         if self.is_overlong || self.end - self.start > LINE_LIMIT {
@@ -245,27 +245,27 @@ impl LineCutter {
         }
     }
 
-    /// The next line, where a whole one waits.
+    /// The next line, where it is buffered whole.
     fn whole_line(&mut self) -> Option<Span>
-        ensures some { IfSome result (λ span. GivesWhole self.old self.new (line_at self.new span)) }
-        ensures in_buffer { IfSome result (λ span. (span.from ≤ span.to) × (span.to ≤ 4259840)) }
-        ensures none { IfNone result (Keeps self.old self.new) }
-        ensures no_line { IfNone result (HasNoLine self.new) }
+        ensures some { IfSome result (λ span. GivesWhole self.old self.new (view_at self.new span)) }
+        ensures in_buffer { IfSome result (λ span. (span.from ≤ span.to) × (span.to ≤ buffer_size)) }
+        ensures none { IfNone result (MeansSame self.old self.new) }
+        ensures no_line { IfNone result (HasNoWholeLine self.new) }
     {
-        self.settle_return();
+        self.skip_line_feed();
         match find_end(&self.buffer[self.scanned..self.end]) {
             Some(k) => {
                 let at = self.scanned + k;
-                Some(self.give(at))
+                Some(self.cut_at(at))
             }
             None => {
-                self.let_go();
+                self.discard_overlong();
                 None
             }
         }
     }
 
-    /// Whether something waits.
+    /// Whether bytes were taken that belong to no line so far.
     fn has_rest(&self) -> bool
         ensures some { result ≡ true → self.now.passed < self.now.taken }
         ensures what { result ≡ true → (self.now.is_overlong ≡ true) ⊎ (self.now.start < self.now.end) }
@@ -275,12 +275,12 @@ impl LineCutter {
         self.is_overlong || self.start < self.end
     }
 
-    /// What waits at the end of the input is the last line.
+    /// The last line: the bytes behind the last end, where there are any.
     fn last_line(&mut self) -> Option<Span>
-        requires none { HasNoLine self.old }
+        requires none { HasNoWholeLine self.old }
         requires ended { self.old.has_ended ≡ true }
-        ensures some { IfSome result (λ span. GivesLine self.old self.new [] (line_at self.new span)) }
-        ensures in_buffer { IfSome result (λ span. (span.from ≤ span.to) × (span.to ≤ 4259840)) }
+        ensures some { IfSome result (λ span. GivesLine self.old self.new [] (view_at self.new span)) }
+        ensures in_buffer { IfSome result (λ span. (span.from ≤ span.to) × (span.to ≤ buffer_size)) }
         ensures none { IfNone result (HasEnded self.old self.new []) }
     {
         if !self.has_rest() {
@@ -295,32 +295,32 @@ impl LineCutter {
         Some(span)
     }
 
-    /// Moves what waits to the front of the buffer, where it has reached the back.
+    /// Moves what is buffered to the front, where it has come to the back.
     fn make_room(&mut self)
-        requires none { HasNoLine self.old }
+        requires none { HasNoWholeLine self.old }
         ensures takes { Takes self.old self.new [] }
-        ensures none { HasNoLine self.new }
+        ensures none { HasNoWholeLine self.new }
         ensures ended { self.new.has_ended ≡ self.old.has_ended }
-        ensures room { self.new.end < 4259840 }
+        ensures room { self.new.end < buffer_size }
     {
         if self.end == ROOM {
-            let waits = self.end - self.start;
+            let len = self.end - self.start;
             to_front(&mut self.buffer, self.start, self.end);
             self.start = 0;
-            self.scanned = waits;
-            self.end = waits;
+            self.scanned = len;
+            self.end = len;
         }
     }
 
     /// Takes more bytes, or sees the end.
     fn fill<S: Source>(&mut self, input: &mut S) -> Result<(), InputStop>
-        requires none { HasNoLine self.old }
+        requires none { HasNoWholeLine self.old }
         requires room { self.old.taken < self.old.limit }
         requires open { self.old.has_ended ≡ false }
         ensures takes { (bytes : List ℕ) × Fills self.old self.new bytes result
             × Tells (S.tells input.old) (S.tells input.new) (S.left input.old ≡ bytes ++ S.left input.new) }
         ensures ended { self.new.has_ended ≡ true → IsTrue (S.tells input.old) → S.left input.new ≡ [] }
-        ensures counts { CountsStop result (S.faults input.old) (S.faults input.new) }
+        ensures counts { CountsFault (is_err_and is_input_fault result) (S.faults input.old) (S.faults input.new) }
     {
         self.make_room();
         let room = (self.limit - self.taken).min((ROOM - self.end) as u64) as usize;
@@ -338,14 +338,14 @@ impl LineCutter {
         }
     }
 
-    /// The next line, up to where it lies.
+    /// Where the next line lies.
     fn advance<S: Source>(&mut self, input: &mut S) -> Result<Option<Span>, InputStop>
-        ensures next { (bytes : List ℕ) × NextIs (line_at self.new) self.old self.new bytes result
+        ensures next { (bytes : List ℕ) × NextIs (view_at self.new) self.old self.new bytes result
             × Tells (S.tells input.old) (S.tells input.new) (S.left input.old ≡ bytes ++ S.left input.new) }
         ensures ended { self.old.has_ended ≡ false → self.new.has_ended ≡ true → IsTrue (S.tells input.old) → S.left input.new ≡ [] }
         ensures closed { self.old.has_ended ≡ true → input.new ≡ input.old }
-        ensures counts { CountsStop result (S.faults input.old) (S.faults input.new) }
-        ensures in_buffer { IfOk result (λ line. IfSome line (λ span. (span.from ≤ span.to) × (span.to ≤ 4259840))) }
+        ensures counts { CountsFault (is_err_and is_input_fault result) (S.faults input.old) (S.faults input.new) }
+        ensures in_buffer { IfOk result (λ line. IfSome line (λ span. (span.from ≤ span.to) × (span.to ≤ buffer_size))) }
     {
         loop {
             if let Some(span) = self.whole_line() {
@@ -366,8 +366,8 @@ impl LineCutter {
     /// The line at a span.
     fn line_of(&self, span: Span) -> Line<'_>
         requires ordered { span.from ≤ span.to }
-        requires in_room { span.to ≤ 4259840 }
-        ensures line { shown result ≡ line_at self.now span }
+        requires in_room { span.to ≤ buffer_size }
+        ensures line { view_of result ≡ view_at self.now span }
         ensures number { result.number ≡ self.now.number }
     {
         Line {
@@ -380,26 +380,25 @@ impl LineCutter {
     /// The next line, as soon as its end has been taken; None exactly where the input has ended and no byte is
     /// left. It takes no more than the limit. After a `Fault` the next call goes on with all bytes that were taken.
     pub fn next<S: Source>(&mut self, input: &mut S) -> Result<Option<Line<'_>>, InputStop>
-        ensures* next { sem 𝓛 (Rests the_row self.entry (λ new. (bytes : List ℕ) × NextIs shown self.old new bytes result
+        ensures* next { sem 𝓛 (Rests the_row self.entry (λ new. (bytes : List ℕ) × NextIs view_of self.old new bytes result
             × Tells (S.tells input.old) (S.tells input.new) (S.left input.old ≡ bytes ++ S.left input.new)
-            × (self.old.has_ended ≡ false → new.has_ended ≡ true → IsTrue (S.tells input.old) → S.left input.new ≡ []))) }
-        ensures closed { self.old.has_ended ≡ true → input.new ≡ input.old }
-        ensures number { IfOk result (λ line. IfSome line (λ line. line.number ≡ self.old.number + 1)) }
-        ensures counts { CountsStop result (S.faults input.old) (S.faults input.new) }
+            × ((progress self.old).has_ended ≡ false → (progress new).has_ended ≡ true → IsTrue (S.tells input.old) → S.left input.new ≡ []))) }
+        ensures closed { (progress self.old).has_ended ≡ true → input.new ≡ input.old }
+        ensures number { IfOk result (λ line. IfSome line (λ line. line.number ≡ (progress self.old).lines + 1)) }
+        ensures counts { CountsFault (is_err_and is_input_fault result) (S.faults input.old) (S.faults input.new) }
     {
-        match self.advance(input) {
-            Ok(Some(span)) => Ok(Some(self.line_of(span))),
-            Ok(None) => Ok(None),
-            Err(stop) => Err(stop),
+        match self.advance(input)? {
+            Some(span) => Ok(Some(self.line_of(span))),
+            None => Ok(None),
         }
     }
 
-    /// The number of taken bytes that lie before the next line. A line feed that waits and belongs to the end of
-    /// the line before is one of them.
+    /// The number of taken bytes that lie before the next line. A line feed that was taken and belongs to the end
+    /// of the line before is one of them.
     pub fn passed(&self) -> u64
-        ensures value { result ≡ place_of_next self.now }
-        ensures within { result ≤ self.now.limit }
+        ensures value { result ≡ next_offset self.now }
+        ensures within { result ≤ (progress self.now).limit }
     {
-        self.passed + feed(self.after_return, &self.buffer[self.start..self.end])
+        self.passed + skipped_length(self.after_return, &self.buffer[self.start..self.end])
     }
 }

@@ -2,7 +2,7 @@
 ghost use Rattle.std.specs.Prelude.{◌≡◌, ℕ, List, All};
 ghost use Rattle.ts_model.specs.TextTriple.{IsTriple};
 ghost use Rattle.ts_model.specs.declared.signed.SignedTriple.{SignedTriple};
-ghost use Rattle.ts_script.specs.Words.{IsCommand, IsNoCommand};
+ghost use Rattle.ts_script.specs.Commands.{IsCommand, IsNoCommand};
 ghost use Rattle.ts_script.specs.declared.command.Command.{Command};
 
 /// Words and the lines behind them are one command, or none exactly where the words are none. Each triple of a body

@@ -16,7 +16,9 @@ mod body;
 mod command;
 mod cutter;
 mod first;
+mod head;
 mod law;
+mod opening;
 mod reply;
 mod stop;
 #[cfg(test)]

@@ -16,9 +16,9 @@ pub enum ScriptStop {
 }
 
 impl From<InputStop> for ScriptStop {
-    ghost use Rattle.ts_script.specs.Stops.{stop_of};
+    ghost use Rattle.ts_script.specs.StopFaults.{script_stop_of};
 
-    ghost from_gives = { λ stop given. given ≡ stop_of stop };
+    ghost from_gives = { λ stop given. given ≡ script_stop_of stop };
 
     fn from(stop: InputStop) -> ScriptStop {
         match stop {

@@ -27,20 +27,20 @@ fn asked(alloc: Global, text: &str) -> Result<Option<Command>, Fail> {
 fn lines(alloc: Global, text: &[u8], limit: u64) -> Result<String, Fail> {
     let mut input = MemorySource::new(alloc, text)?;
     let mut cutter = LineCutter::new(alloc, limit)?;
-    let mut seen = String::new(alloc);
+    let mut cut = String::new(alloc);
     for _ in 0..10 {
         match cutter.next(&mut input) {
             Ok(Some(line)) => {
-                let shown = str::from_utf8(line.bytes).map_err(|_| "not UTF-8")?;
-                seen.push_str(format!(in alloc; "{}:{shown}|", line.number)?.as_str())?;
+                let text = str::from_utf8(line.bytes).map_err(|_| "not UTF-8")?;
+                cut.push_str(format!(in alloc; "{}:{text}|", line.number)?.as_str())?;
             }
             Ok(None) => {
-                seen.push_str("end")?;
-                return Ok(seen);
+                cut.push_str("end")?;
+                return Ok(cut);
             }
             Err(InputStop::Limit) => {
-                seen.push_str("limit")?;
-                return Ok(seen);
+                cut.push_str("limit")?;
+                return Ok(cut);
             }
             Err(InputStop::Fault) => return Err("fault")?,
         }
@@ -166,6 +166,13 @@ fn words_ask_whether_a_layer_has_a_triple(rt: HostRuntime) -> Result<(), Fail> {
             assert_eq!(rt; triple.predicate().spelling(), b"<p>".as_slice());
             assert_eq!(rt; triple.object().spelling(), b"\"b\"@en".as_slice());
             assert_eq!(rt; triple.object().kind(), TermKind::Value);
+        }
+        _ => return Err("no has")?,
+    }
+    match asked(alloc, "has last <a> <p> _:o")? {
+        Some(Command::Has { triple, .. }) => {
+            assert_eq!(rt; triple.object().spelling(), b"_:o".as_slice());
+            assert_eq!(rt; triple.object().kind(), TermKind::Node);
         }
         _ => return Err("no has")?,
     }

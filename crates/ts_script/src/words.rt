@@ -1,104 +1,42 @@
-// The commands without a body, read from their words.
-ghost use Rattle.std.specs.Prelude.{◌≡◌, ◌∷◌, [], List, map, IfOk, IfSome, IfNone, string_bytes};
-ghost use Rattle.ts_model.specs.TextTriple.{TextTriple, HasKinds};
+// What a word of a command names.
+ghost use Rattle.std.specs.Prelude.{◌≡◌, IfOk, IfSome, IfNone};
+ghost use Rattle.ts_model.specs.TextTriple.{TextTriple};
 ghost use Rattle.ts_model.specs.TextTerm.{TextTerm};
-ghost use Rattle.ts_script.specs.Words.{AsksFor, IsLayerWord, IsRefWord, IsTermWord};
+ghost use Rattle.ts_script.specs.Words.{IsLayerWord, IsRefWord, IsTermWord, SpellTriple};
 
-use crate::{Command, LayerRef, Ref};
+use crate::{LayerRef, Ref};
 use std::alloc::{AllocError, Global};
-use ts_model::{Pattern, Term, TermKind, Triple, layer_number};
+use ts_model::{Term, TermKind, Triple, layer_number};
 use ts_nt::{object_kind, read_term};
 
-/// The command without a body that the words are, and None exactly where they are none.
-pub(crate) fn bodiless(alloc: Global, words: &[String]) -> Result<Option<Command>, AllocError>
-    ensures some { IfOk result (λ asked. IfSome asked (AsksFor (map string_bytes words.now))) }
-    ensures none { IfOk result (λ asked. IfNone asked ((command : Command) → AsksFor (map string_bytes words.now) command → ⊥)) }
+/// The layer that a word refers to.
+pub(crate) fn read_ref(word: &str) -> Option<Ref>
+    ensures some { IfSome result (IsRefWord word.now) }
+    ensures none { IfNone result ((at : Ref) → IsRefWord word.now at → ⊥) }
 {
-    match words {
-        [name, at] => Ok(listing(name.as_str(), at.as_str())),
-        [name, at, subject, predicate, object] => has(
-            alloc,
-            name.as_str(),
-            at.as_str(),
-            subject.as_str(),
-            predicate.as_str(),
-            object.as_str(),
-        ),
-        _ => Ok(None),
-    }
-}
-
-/// The command of two words.
-fn listing(name: &str, at: &str) -> Option<Command>
-    ensures some { IfSome result (AsksFor (name.now ∷ at.now ∷ [])) }
-    ensures none { IfNone result ((command : Command) → AsksFor (name.now ∷ at.now ∷ []) command → ⊥) }
-{
-    if name != "list" {
-        return None;
-    }
-    let at = layer_ref(at.as_bytes())?;
-    Some(Command::Listing {
-        at: Ref::Layer(at),
-        pattern: Pattern {
-            subject: None,
-            predicate: None,
-            object: None,
-        },
-    })
-}
-
-/// The command of five words.
-fn has(
-    alloc: Global,
-    name: &str,
-    at: &str,
-    subject: &str,
-    predicate: &str,
-    object: &str,
-) -> Result<Option<Command>, AllocError>
-    ensures some { IfOk result (λ asked. IfSome asked (AsksFor (name.now ∷ at.now ∷ subject.now ∷ predicate.now ∷ object.now ∷ []))) }
-    ensures none { IfOk result (λ asked. IfNone asked ((command : Command) → AsksFor (name.now ∷ at.now ∷ subject.now ∷ predicate.now ∷ object.now ∷ []) command → ⊥)) }
-{
-    if name != "has" {
-        return Ok(None);
-    }
-    let Some(at) = layer_ref(at.as_bytes()) else {
-        return Ok(None);
-    };
-    let Some(triple) = read_triple(alloc, subject, predicate, object)? else {
-        return Ok(None);
-    };
-    Ok(Some(Command::Has {
-        at: Ref::Layer(at),
-        triple,
-    }))
+    Some(Ref::Layer(read_layer(word)?))
 }
 
 /// The layer that a word names.
-fn layer_ref(word: &[u8]) -> Option<LayerRef>
+fn read_layer(word: &str) -> Option<LayerRef>
     ensures some { IfSome result (IsLayerWord word.now) }
     ensures none { IfNone result ((layer : LayerRef) → IsLayerWord word.now layer → ⊥) }
 {
-    if word == b"last".as_slice() {
+    if word == "last" {
         return Some(LayerRef::Last);
     }
-    match layer_number(word) {
-        Some(number) => Some(LayerRef::Number(number)),
-        None => None,
-    }
+    Some(LayerRef::Number(layer_number(word.as_bytes())?))
 }
 
 /// The triple that three words spell.
-fn read_triple(
+pub(crate) fn read_triple(
     alloc: Global,
     subject: &str,
     predicate: &str,
     object: &str,
 ) -> Result<Option<Triple>, AllocError>
-    ensures some { IfOk result (λ read. IfSome read (λ triple. HasKinds triple.subject triple.predicate triple.object
-        × IsTermWord subject.now triple.subject × IsTermWord predicate.now triple.predicate × IsTermWord object.now triple.object)) }
-    ensures none { IfOk result (λ read. IfNone read ((triple : TextTriple) → HasKinds triple.subject triple.predicate triple.object
-        → IsTermWord subject.now triple.subject → IsTermWord predicate.now triple.predicate → IsTermWord object.now triple.object → ⊥)) }
+    ensures some { IfOk result (λ read. IfSome read (SpellTriple subject.now predicate.now object.now)) }
+    ensures none { IfOk result (λ read. IfNone read ((triple : TextTriple) → SpellTriple subject.now predicate.now object.now triple → ⊥)) }
 {
     let Some(subject) = read_word(alloc, subject, TermKind::Node)? else {
         return Ok(None);

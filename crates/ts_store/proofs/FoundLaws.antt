@@ -19,10 +19,11 @@ use Rattle.ts_store.specs.declared.loaded.Loaded.{Loaded}
 use Rattle.ts_store.specs.declared.stop.Stop.{Stop}
 use Rattle.ts_store.specs.declared.stop.Stop.TheVariants.{Damaged}
 use Rattle.ts_store.specs.Doing.{IsReadFrom, IsFirstOf, IsOtherStop}
-use Rattle.ts_store.specs.FolderSays.{FolderSays, IsBase, IsDamagedLayer, AreSoundLayers, IsFirstDamaged, file_of}
 use Rattle.ts_store.specs.Loaded.{AreLoaded, IsLoaded, base_record, history_kept, loaded_entry}
 use Rattle.ts_store.proofs.LookupLaws.{get-at}
 use Rattle.ts_store.proofs.OpenLaws.{read_at, read_soundly}
+use Rattle.ts_store.specs.Files.{AreFilesOf, IsBase, file_of}
+use Rattle.ts_store.specs.FolderSays.{AreSoundLayers, IsDamagedLayer, IsFirstDamaged}
 
 none_in : {A : Type 0} (xs : List A) (x : A) → xs ≡ [] → Contains xs x → ⊥
 none_in xs x none (i, lt, is) = omega (arith, lt, ap length none)
@@ -102,7 +103,7 @@ module _ (folder : Folder) (numbers rollups : List ℕ) (labels : List (List ℕ
       ] refl
 
       -- the folder tells the history of its layers
-      pub says_read : rollups ≡ [] → labels ≡ [] → FolderSays folder history
+      pub says_read : rollups ≡ [] → labels ≡ [] → AreFilesOf folder history
       says_read no_rollups no_labels = record { numbers = numbers_say; layers = layers_say; rollups = rollups_say no_rollups; labels = labels_say no_labels }
 
 -- ---- files that are none of layers

@@ -11,7 +11,7 @@ use Rattle.ts_store.specs.declared.stop.Stop.{Stop}
 use Rattle.ts_store.specs.declared.stop.Kind.{Kind}
 use Rattle.ts_store.specs.declared.stop.Stop.TheVariants.{Usage, Damaged, DiskFault, InputFault, OutputFault, InputLimit, Memory}
 use Rattle.ts_store.specs.Doing.{IsAskingStop, IsSaidAt, SaysFront}
-use Rattle.ts_store.specs.Stops.{AreLines, LeavesTold}
+use Rattle.ts_store.specs.Leaves.{AreLines, LeavesTold}
 
 -- lines behind lines are lines
 lines_append : (a b : List ℕ) → AreLines a → AreLines b → AreLines (a ++ b)

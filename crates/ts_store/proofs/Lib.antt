@@ -11,3 +11,5 @@ pub mod OneHistory
 pub mod OpenLaws
 pub mod PlaceLaws
 pub mod StandsLaws
+pub mod StateLaws
+pub mod CallLaws

@@ -21,11 +21,11 @@ use Rattle.ts_site.specs.Folder.{Folder, IsAnyAt}
 use Rattle.ts_site.proofs.FolderLemmas.{get-insert_same, get-insert_other, get-remove_other}
 use Rattle.ts_store.specs.declared.loaded.Loaded.{Loaded}
 use Rattle.ts_store.specs.Doing.{IsBaseOf, IsMade}
-use Rattle.ts_store.specs.FolderSays.{FolderSays, IsBase, file_of}
 use Rattle.std.specs.List.Sorted.{IsStrictlySortedBy}
 use Rattle.ts_store.specs.Loaded.{IsLoaded, base_record}
 use Rattle.ts_store.specs.Step.{base_of, next_number, are_counted, is_numbered}
 use Rattle.ts_store.proofs.NameLaws.{layer_name-tells, layer_is_not_new, rollup_is_not_layer, rollup_is_not_new, label_is_not_layer, label_is_not_new}
+use Rattle.ts_store.specs.Files.{AreFilesOf, IsBase, file_of}
 
 -- a base adds all that its body adds
 pub added-is : (body : List SignedTriple) → net_additions empty body ≡ added body
@@ -57,7 +57,7 @@ module _ (number : ℕ) (body : List SignedTriple) (additions : List TextTriple)
     }
 
 -- the temporary file says nothing
-pub says_any : (folder after : Folder) (history : History) → IsAnyAt new_tmp folder after → FolderSays folder history → FolderSays after history
+pub says_any : (folder after : Folder) (history : History) → IsAnyAt new_tmp folder after → AreFilesOf folder history → AreFilesOf after history
 says_any folder after history any says = record {
   numbers = says.numbers;
   layers = λ k is. same (layer_name k) (layer_is_not_new k) any ∙ says.layers k is;
@@ -93,7 +93,7 @@ module _ (history : History) (body : List SignedTriple) (loaded : Loaded) (file 
   same_number : (k : ℕ) → eq_by_cmp nat_cmp k n ≡ true → k ≡ n
   same_number k e = nat_cmp-IsAntisymmetric k n ((Equal-is (nat_cmp k n)).0 e)
 
-  module _ (folder : Folder) (says : FolderSays folder history) where
+  module _ (folder : Folder) (says : AreFilesOf folder history) where
     abbrev changed : Folder
     changed = replaced folder (layer_name n) file
 
@@ -118,7 +118,7 @@ module _ (history : History) (body : List SignedTriple) (loaded : Loaded) (file 
         ∙ says.layers k is
 
     -- a folder that tells a history tells it with the new base, once its file stands
-    pub says_made : FolderSays changed after
+    pub says_made : AreFilesOf changed after
     says_made = record {
       numbers = λ k layer is. numbers_after k layer (eq_by_cmp nat_cmp k n) refl (sym (get-after k) ∙ is);
       layers = λ k is. layers_after k (eq_by_cmp nat_cmp k n) is refl ∙ ap (option_map (file_of k)) (sym (get-after k));

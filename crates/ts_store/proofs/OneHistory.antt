@@ -25,7 +25,8 @@ use Rattle.ts_plain.proofs.LineLaws.{section_once}
 use Rattle.ts_plain.proofs.RuleLaws.{KeepsPlainRules-base}
 use Rattle.ts_replace.specs.Names.{IsLayerNumber, layer_name, rollup_name, label_file_name}
 use Rattle.ts_site.specs.Folder.{Folder}
-use Rattle.ts_store.specs.FolderSays.{FolderSays, IsBase, IsBaseFile, IsDamagedLayer, HasRollup, HasLabel, IsFirstDamaged, file_of}
+use Rattle.ts_store.specs.Files.{AreFilesOf, IsBase, file_of}
+use Rattle.ts_store.specs.FolderSays.{HasLabel, HasRollup, IsBaseFile, IsDamagedLayer, IsFirstDamaged}
 
 -- ---- its history is well kept
 
@@ -42,7 +43,7 @@ content_below-base history k layer is base =
     let none : parent_at history k ≡ None = ap (option_and_then (λ layer. layer.parent)) is ∙ base in
     ap (λ parent. content_of history (chain_within k history parent)) none ∙ ap (content_of history) (chain_within-none k history)
 
-pub well_kept : (folder : Folder) (history : History) → FolderSays folder history → IsWellKept history
+pub well_kept : (folder : Folder) (history : History) → AreFilesOf folder history → IsWellKept history
 well_kept folder history says k layer is =
     let said = says.numbers k layer is in
     record {
@@ -76,14 +77,14 @@ base_once k layer other base another e =
 
 module _ (folder : Folder) where
   -- a history has a layer wherever the other has one
-  no_layer : (a b : History) → FolderSays folder a → FolderSays folder b → (k : ℕ) (layer : LayerRecord) → get a k ≡ None → get b k ≡ Some layer → ⊥
+  no_layer : (a b : History) → AreFilesOf folder a → AreFilesOf folder b → (k : ℕ) (layer : LayerRecord) → get a k ≡ None → get b k ≡ Some layer → ⊥
   no_layer a b one other k layer none stands =
       let is = (other.numbers k layer stands).0 in
       let files : option_map (file_of k) (get a k) ≡ option_map (file_of k) (get b k) = sym (one.layers k is) ∙ other.layers k is in
       let differ : false ≡ true = ap is_some (sym (ap (option_map (file_of k)) none) ∙ files ∙ ap (option_map (file_of k)) stands) in
       true≢false (sym differ)
 
-  module _ (a b : History) (one : FolderSays folder a) (other : FolderSays folder b) where
+  module _ (a b : History) (one : AreFilesOf folder a) (other : AreFilesOf folder b) where
     one_layer : (k : ℕ) (layer twin : LayerRecord) → get a k ≡ Some layer → get b k ≡ Some twin → layer ≡ twin
     one_layer k layer twin e f =
         let here = one.numbers k layer e in
@@ -110,7 +111,7 @@ plain_base k set is triples = (KeepsPlainRules-base k set is.0, triples, (λ i d
 is_base_file : (k : ℕ) (layer : LayerRecord) → IsLayerNumber k → IsBase layer → IsBaseFile k (file_of k layer)
 is_base_file k layer is base = (members layer.additions, plain_base k layer.additions is base.2, base_file k layer base)
 
-module _ (folder : Folder) (history : History) (says : FolderSays folder history) where
+module _ (folder : Folder) (history : History) (says : AreFilesOf folder history) where
   undamaged : (k : ℕ) (layer : Option LayerRecord) → get history k ≡ layer → IsDamagedLayer folder k → ⊥
   undamaged k None e (is, (file, stands, none)) =
       let absent : get folder (layer_name k) ≡ None = says.layers k is ∙ ap (option_map (file_of k)) e in
@@ -119,7 +120,7 @@ module _ (folder : Folder) (history : History) (says : FolderSays folder history
       let given : Some (file_of k layer) ≡ Some file = sym (ap (option_map (file_of k)) e) ∙ sym (says.layers k is) ∙ stands in
       none (subst (IsBaseFile k) (ap (λ o. unwrap_or o []) given) (is_base_file k layer is (says.numbers k layer e).1))
 
-pub not_damaged : (folder : Folder) (history : History) (name : List ℕ) → FolderSays folder history → IsFirstDamaged folder name → ⊥
+pub not_damaged : (folder : Folder) (history : History) (name : List ℕ) → AreFilesOf folder history → IsFirstDamaged folder name → ⊥
 not_damaged folder history name says (inl (k, damaged, named, first)) = undamaged folder history says k (get history k) refl damaged
 not_damaged folder history name says (inr (inl (k, sound, (is, stands), named, first))) = true≢false (sym stands ∙ says.rollups k is)
 not_damaged folder history name says (inr (inr (label, sound, none, (is, stands), named, first))) = true≢false (sym stands ∙ says.labels label is)

@@ -23,9 +23,10 @@ use Rattle.ts_store.specs.declared.loaded.Loaded.{Loaded}
 use Rattle.ts_store.specs.declared.stop.Stop.{Stop}
 use Rattle.ts_store.specs.declared.stop.Stop.TheVariants.{Damaged, Memory}
 use Rattle.ts_store.specs.Doing.{IsReadFrom, IsFirstOf}
-use Rattle.ts_store.specs.FolderSays.{IsBaseFile, IsDamagedLayer, file_of}
 use Rattle.ts_store.specs.Loaded.{AreLoaded, IsLoaded, base_record}
 use Rattle.ts_model.proofs.TripleSets.{members-empty}
+use Rattle.ts_store.specs.Files.{file_of}
+use Rattle.ts_store.specs.FolderSays.{IsBaseFile, IsDamagedLayer}
 
 -- ---- the bytes of a file
 

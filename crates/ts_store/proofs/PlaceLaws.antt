@@ -19,13 +19,15 @@ use Rattle.ts_store.specs.declared.stop.Stop.TheVariants.{DiskFault, OutputFault
 use Rattle.ts_store.specs.declared.stop.Kind.{Kind}
 use Rattle.ts_store.specs.declared.stop.Kind.TheVariants.{Done}
 use Rattle.ts_store.specs.Doing.{IsMade, IsNewest, AddsBase, KeepsAll, state_of}
-use Rattle.ts_store.specs.FolderSays.{FolderSays}
 use Rattle.ts_store.specs.Loaded.{AreLoaded, history_kept}
-use Rattle.ts_store.specs.Stands.{LeavesHistory}
 use Rattle.ts_store.specs.Step.{Stepped, does, refuses, with_layer, base_of, next_number, step_of}
-use Rattle.ts_store.specs.Stops.{LeavesFolder, kind_of}
 use Rattle.ts_store.proofs.NumberLaws.{AreLoaded-push, history_kept-push}
 use Rattle.ts_store.proofs.MadeLaws.{record_is, says_made, says_any, numbered}
+use Rattle.ts_store.specs.Keeps.{Keeps}
+use Rattle.ts_store.specs.AfterBase.{LeavesFiles, LeavesHistory}
+use Rattle.ts_store.specs.Files.{AreFilesOf}
+use Rattle.ts_store.specs.Keeps.{Keeps}
+use Rattle.ts_store.specs.Stops.{kind_of}
 
 module _ (layers : List Loaded) (last : Option ℕ) (body : List SignedTriple) (loaded : Loaded) (file : List ℕ) (are : AreLoaded layers) (newest : IsNewest layers last)
     (made : IsMade (history_kept layers) body loaded file) where
@@ -81,25 +83,25 @@ module _ (layers : List Loaded) (last : Option ℕ) (body : List SignedTriple) (
     state_after (Err stop) h = tt
 
   -- what `place` may leave of a folder that told the history
-  module _ (folder after : Folder) (says : FolderSays folder (history_kept layers)) where
+  module _ (folder after : Folder) (says : AreFilesOf folder (history_kept layers)) where
     abbrev next : History
     next = stepped.state.history
 
-    says_next : after ≡ replaced folder (layer_name loaded.number) file → FolderSays after next
+    says_next : after ≡ replaced folder (layer_name loaded.number) file → AreFilesOf after next
     says_next is =
-        subst (λ f. FolderSays f next) (sym (is ∙ ap (λ n. replaced folder (layer_name n) file) made.number))
-        (subst (FolderSays (replaced folder (layer_name (next_number (history_kept layers))) file)) (sym (ap (λ (s : Stepped). s.state.history) stepped_is)) (says_made (history_kept layers) body loaded file made folder says))
+        subst (λ f. AreFilesOf f next) (sym (is ∙ ap (λ n. replaced folder (layer_name n) file) made.number))
+        (subst (AreFilesOf (replaced folder (layer_name (next_number (history_kept layers))) file)) (sym (ap (λ (s : Stepped). s.state.history) stepped_is)) (says_made (history_kept layers) body loaded file made folder says))
 
     abbrev Said : Stop → Type 0
-    Said stop = LeavesFolder (Err stop) (replaced folder (layer_name loaded.number) file) folder after → LeavesHistory (FolderSays after) (Err stop) (history_kept layers) next
+    Said stop = LeavesFiles (Err stop) (replaced folder (layer_name loaded.number) file) folder after → LeavesHistory (AreFilesOf after) (Err stop) (history_kept layers) next
 
     said_at_fault : Said DiskFault
     said_at_fault (inl any) = inl (says_any folder after (history_kept layers) any says)
-    said_at_fault (inr (inl same)) = inl (subst (λ f. FolderSays f (history_kept layers)) (sym same) says)
+    said_at_fault (inr (inl same)) = inl (subst (λ f. AreFilesOf f (history_kept layers)) (sym same) says)
     said_at_fault (inr (inr is)) = inr (says_next is)
 
     pub says_after : (result : Result Kind Stop) → IfErr result (λ stop. (stop ≡ DiskFault) ⊎ (stop ≡ OutputFault))
-        → LeavesFolder result (replaced folder (layer_name loaded.number) file) folder after → LeavesHistory (FolderSays after) result (history_kept layers) next
+        → LeavesFiles result (replaced folder (layer_name loaded.number) file) folder after → LeavesHistory (AreFilesOf after) result (history_kept layers) next
     says_after (Ok kind) why = says_next
     says_after (Err stop) (inl disk) = subst Said (sym disk) said_at_fault
     says_after (Err stop) (inr output) = subst Said (sym output) says_next

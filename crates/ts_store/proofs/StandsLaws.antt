@@ -24,11 +24,14 @@ use Rattle.ts_script.specs.declared.reply.Refusal.TheVariants as refusal
 use Rattle.ts_store.specs.declared.stop.Kind.{Kind}
 use Rattle.ts_store.specs.declared.stop.Stop.{Stop}
 use Rattle.ts_store.specs.declared.stop.Stop.TheVariants.{Usage, Damaged, DiskFault, InputFault, OutputFault, InputLimit, Memory}
-use Rattle.ts_store.specs.FolderSays.{FolderSays}
-use Rattle.ts_store.specs.Stands.{AreCounted, Stands, LeavesHistory}
 use Rattle.ts_store.specs.State.{State}
 use Rattle.ts_store.specs.Step.{Stepped, does, refuses, with_layer, answered, base_of, is_numbered, are_counted, next_number, resolve, step_of}
 use Rattle.ts_store.proofs.OneHistory.{well_kept}
+use Rattle.ts_store.proofs.StateLaws.{says_of}
+use Rattle.ts_store.specs.AfterBase.{LeavesHistory}
+use Rattle.ts_store.specs.Files.{AreFilesOf}
+use Rattle.ts_store.specs.Leaves.{LeavesState}
+use Rattle.ts_store.specs.Stands.{AreCounted, Stands}
 
 both_true : (a b : Bool) → (a && b) ≡ true → (a ≡ true) × (b ≡ true)
 both_true true b e = (refl, e)
@@ -46,7 +49,7 @@ answered_same : (state : State) (layer : LayerRef) (found : Option ℕ) (reply_o
 answered_same state layer None reply_of = refl
 answered_same state layer (Some k) reply_of = refl
 
-module _ (state : State) (counted : AreCounted state.history) (folder : Folder) (says : FolderSays folder state.history) (after : Folder) where
+module _ (state : State) (counted : AreCounted state.history) (folder : Folder) (says : AreFilesOf folder state.history) (after : Folder) where
   counted_alone : (history : History) → IsWellKept history → ((k : ℕ) (layer : LayerRecord) → get history k ≡ Some layer → (layer.parent ≡ None) × (term_count (members layer.additions) < 2 ^ 32) × (predicate_count (members layer.additions) < 2 ^ 32)) → AreCounted history
   counted_alone history kept each k layer is =
       let here = each k layer is in
@@ -63,7 +66,7 @@ module _ (state : State) (counted : AreCounted state.history) (folder : Folder) 
   abbrev with_base : List SignedTriple → History
   with_base body = insert state.history (next_number state.history) (base_of body)
 
-  counted_base : (body : List SignedTriple) → are_counted (members (net_additions empty body)) ≡ true → FolderSays after (with_base body) → AreCounted (with_base body)
+  counted_base : (body : List SignedTriple) → are_counted (members (net_additions empty body)) ≡ true → AreFilesOf after (with_base body) → AreCounted (with_base body)
   counted_base body few told = counted_alone (with_base body) (well_kept after (with_base body) told) (λ k layer is. each k layer (eq_by_cmp nat_cmp k (next_number state.history)) (sym (get-insert nat_cmp_total state.history (next_number state.history) (base_of body) k) ∙ is))
     where
       each : (k : ℕ) (layer : LayerRecord) (b : Bool) → cond b (Some (base_of body)) (get state.history k) ≡ Some layer → (layer.parent ≡ None) × (term_count (members layer.additions) < 2 ^ 32) × (predicate_count (members layer.additions) < 2 ^ 32)
@@ -76,25 +79,25 @@ module _ (state : State) (counted : AreCounted state.history) (folder : Folder) 
   abbrev outcome : List SignedTriple → Bool → Stepped
   outcome body b = if b then does (with_layer state (base_of body)) (reply_text (reply.Layer (next_number state.history))) else refuses state refusal.Full
 
-  counted_next : (asked : Command) → FolderSays after (step_of state asked).state.history → AreCounted (step_of state asked).state.history
+  counted_next : (asked : Command) → AreFilesOf after (step_of state asked).state.history → AreCounted (step_of state asked).state.history
   counted_next (command.BadTriple line) told = counted
   counted_next (command.TooLong line) told = counted
   counted_next (command.Listing (AtLayer layer) pattern) told = subst (λ (s : State). AreCounted s.history) (sym (answered_same state layer (resolve state layer) _)) counted
   counted_next (command.Has (AtLayer layer) triple) told = subst (λ (s : State). AreCounted s.history) (sym (answered_same state layer (resolve state layer) _)) counted
   counted_next (command.Base body) told = by_test (is_numbered state.history (members (net_additions empty body))) refl told
     where
-      by_test : (b : Bool) → is_numbered state.history (members (net_additions empty body)) ≡ b → FolderSays after (outcome body b).state.history → AreCounted (outcome body b).state.history
+      by_test : (b : Bool) → is_numbered state.history (members (net_additions empty body)) ≡ b → AreFilesOf after (outcome body b).state.history → AreCounted (outcome body b).state.history
       by_test true e told = counted_base body (both_true (nat_lt (next_number state.history) (2 ^ 32)) (are_counted (members (net_additions empty body))) e).1 told
       by_test false e told = counted
 
-  next_stands : (asked : Command) → FolderSays after (step_of state asked).state.history → Stands after (step_of state asked).state.history
-  next_stands asked told = record { kept = well_kept after (step_of state asked).state.history told; counted = counted_next asked told; says = told }
+  next_stands : (asked : Command) → AreFilesOf after (step_of state asked).state.history → Stands after (step_of state asked).state
+  next_stands asked told = record { kept = well_kept after (step_of state asked).state.history told; counted = counted_next asked told; says = says_of after (step_of state asked).state told }
 
-  same_stands : FolderSays after state.history → Stands after state.history
-  same_stands told = record { kept = well_kept after state.history told; counted = counted; says = told }
+  same_stands : AreFilesOf after state.history → Stands after state
+  same_stands told = record { kept = well_kept after state.history told; counted = counted; says = says_of after state told }
 
-  -- a folder that stood for the history stands for what a step leaves of it
-  pub stands_after : (result : Result Kind Stop) (asked : Command) → LeavesHistory (FolderSays after) result state.history (step_of state asked).state.history → LeavesHistory (Stands after) result state.history (step_of state asked).state.history
+  -- a folder that stood for the state stands for what a step leaves of it
+  pub stands_after : (result : Result Kind Stop) (asked : Command) → LeavesHistory (AreFilesOf after) result state.history (step_of state asked).state.history → LeavesState (Stands after) result state (step_of state asked).state
   stands_after (Ok kind) asked told = next_stands asked told
   stands_after (Err OutputFault) asked told = next_stands asked told
   stands_after (Err DiskFault) asked (inl told) = inl (same_stands told)

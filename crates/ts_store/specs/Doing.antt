@@ -13,11 +13,12 @@ use Rattle.ts_site.specs.Folder.{Folder}
 use Rattle.ts_store.specs.declared.loaded.Loaded.{Loaded}
 use Rattle.ts_store.specs.declared.stop.Stop.{Stop}
 use Rattle.ts_store.specs.declared.stop.Stop.TheVariants.{Damaged, OutputFault, Memory}
-use Rattle.ts_store.specs.FolderSays.{file_of, IsDamagedLayer}
 use Rattle.ts_store.specs.Loaded.{IsLoaded, base_record, history_kept}
 use Rattle.ts_store.specs.State.{State}
-use Rattle.ts_store.specs.Stops.{AreLines}
 use Rattle.ts_store.specs.Step.{next_number, are_counted}
+use Rattle.ts_store.specs.Files.{file_of}
+use Rattle.ts_store.specs.FolderSays.{IsDamagedLayer}
+use Rattle.ts_store.specs.Leaves.{AreLines}
 
 abbrev pub state_of : List Loaded → Option ℕ → State
 state_of layers last = record { history = history_kept layers; last = last }

@@ -1,31 +1,28 @@
--- A folder and the history that its files tell, and the first file that tells none.
-use Rattle.std.specs.Prelude.{◌≡◌, ◌⊎◌, ℕ, ◌<◌, List, [], All, IsTrue, false, None, Some}
+-- A folder and the state that its files tell, and the first file that is damaged.
+use Rattle.std.specs.Prelude.{◌≡◌, ◌⊎◌, ℕ, ◌<◌, List, [], IsTrue, MatchOption, false, None, Some}
 use Rattle.std.specs.declared.cmp.Ordering.TheVariants.{Less}
-use Rattle.std.specs.Option.{option_map}
 use Rattle.std.specs.Ordering.{nat_cmp}
 use Rattle.std.specs.Cmp.Lexicographic.{slice_cmp}
-use Rattle.std.specs.FinMap.{empty, get, contains_key}
-use Rattle.ts_model.specs.TextTriple.{TextTriple, IsTriple}
+use Rattle.std.specs.FinMap.{get, contains_key}
+use Rattle.ts_model.specs.TextTriple.{TextTriple}
 use Rattle.ts_model.specs.History.{History, LayerRecord}
 use Rattle.ts_model.specs.Names.{IsLabelName}
-use Rattle.ts_model.specs.Sets.{members}
 use Rattle.ts_plain.specs.PlainFile.{plain_file}
 use Rattle.ts_plain.specs.PlainRules.{IsPlainLayer}
 use Rattle.ts_replace.specs.Names.{IsLayerNumber, layer_name, rollup_name, label_file_name}
 use Rattle.ts_site.specs.Folder.{Folder}
+use Rattle.ts_store.specs.Files.{IsBase, file_of}
+use Rattle.ts_store.specs.State.{State}
 
--- a layer that stands alone, of triples
-abbrev pub IsBase : LayerRecord → Type 0
-IsBase layer = (layer.parent ≡ None) × (layer.removals ≡ empty) × All IsTriple (members layer.additions)
+-- the file is that of layer k of the history
+abbrev pub IsFileOf : History → ℕ → List ℕ → Type 0
+IsFileOf history k file = (layer : LayerRecord) × (get history k ≡ Some layer) × (file ≡ file_of k layer)
 
--- the file of a layer
-abbrev pub file_of : ℕ → LayerRecord → List ℕ
-file_of k layer = plain_file k layer.parent (members layer.additions) (members layer.removals)
-
--- Each layer file is that of its layer in the history and no other stands; there are no rollups and no labels yet.
-pub record FolderSays (folder : Folder) (history : History) : Type 0 where
-  pub numbers : (k : ℕ) (layer : LayerRecord) → get history k ≡ Some layer → IsLayerNumber k × IsBase layer
-  pub layers : (k : ℕ) → IsLayerNumber k → get folder (layer_name k) ≡ option_map (file_of k) (get history k)
+-- Each layer of the state has its file and no other stands; there are no rollups and no labels yet. The newest layer of a run
+-- stands in no file.
+pub record FolderSays (folder : Folder) (state : State) : Type 0 where
+  pub numbers : (k : ℕ) (layer : LayerRecord) → get state.history k ≡ Some layer → IsLayerNumber k × IsBase layer
+  pub layers : (k : ℕ) → IsLayerNumber k → MatchOption (get folder (layer_name k)) (get state.history k ≡ None) (IsFileOf state.history k)
   pub rollups : (k : ℕ) → IsLayerNumber k → contains_key folder (rollup_name k) ≡ false
   pub labels : (name : List ℕ) → IsLabelName name → contains_key folder (label_file_name name) ≡ false
 

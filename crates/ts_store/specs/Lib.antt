@@ -1,7 +1,11 @@
+pub mod AfterBase
 pub mod Doing
+pub mod Files
 pub mod FolderSays
-pub mod Kept
+pub mod Keeps
+pub mod Leaves
 pub mod Loaded
+pub mod Memory
 pub mod Stands
 pub mod State
 pub mod Step

@@ -1,11 +1,12 @@
 // What is asked of a layer.
-ghost use Rattle.std.specs.Prelude.{◌≡◌, IfOk, IfErr, None};
-ghost use Rattle.ts_site.specs.Output.{IsSameDisk};
-ghost use Rattle.ts_site.specs.Telling.{Tells};
+ghost use Rattle.std.specs.Prelude.{◌≡◌, IfOk, IfErr, None, IsTrue};
+ghost use Rattle.ts_site.specs.Faults.{is_err_and};
+ghost use Rattle.ts_site.specs.Outside.{OnlySays};
 ghost use Rattle.ts_store.specs.Doing.{IsAskingStop, IsNewest, state_of};
 ghost use Rattle.ts_store.specs.Loaded.{AreLoaded};
 ghost use Rattle.ts_store.specs.Step.{has_text, resolve as layer_of, step_of};
-ghost use Rattle.ts_store.specs.Stops.{CountsSay, LeavesTold, kind_of};
+ghost use Rattle.ts_store.specs.Leaves.{LeavesTold};
+ghost use Rattle.ts_store.specs.Stops.{is_output_fault, kind_of};
 
 use crate::answer::{refuse, reply};
 use crate::find::resolve;
@@ -30,12 +31,11 @@ pub(crate) fn list_at<W: Site>(
     requires loaded { AreLoaded layers.now }
     requires newest { IsNewest layers.now last }
     ensures kind { IfOk result (λ kind. kind ≡ kind_of (step_of (state_of layers.now last) (Command.Listing (Ref.Layer named) pattern.now)).refused) }
-    ensures told { Tells (W.tells_output site.old) (W.tells_output site.new)
-        (LeavesTold result (step_of (state_of layers.now last) (Command.Listing (Ref.Layer named) pattern.now)).told (W.told site.old) (W.told site.new)) }
+    ensures told { IsTrue (W.outside site.old).tells_output
+        → LeavesTold result (step_of (state_of layers.now last) (Command.Listing (Ref.Layer named) pattern.now)).told (W.outside site.old).told (W.outside site.new).told }
     ensures why { IfErr result IsAskingStop }
     ensures free { layer_of (state_of layers.now last) named ≡ None → IfErr result (λ stop. stop ≡ Stop.Memory → ⊥) }
-    ensures say { CountsSay result (W.say_faults site.old) (W.say_faults site.new) }
-    ensures disk { IsSameDisk W.tells_folder W.now W.disk_faults site.old site.new }
+    ensures says { OnlySays (is_err_and is_output_fault result) (W.outside site.old) (W.outside site.new) }
 {
     match resolve(layers, last, named) {
         Some(layer) => list(alloc, site, layer.triples.as_slice(), pattern),
@@ -54,11 +54,10 @@ pub(crate) fn has_at<W: Site>(
     requires loaded { AreLoaded layers.now }
     requires newest { IsNewest layers.now last }
     ensures kind { IfOk result (λ kind. kind ≡ kind_of (step_of (state_of layers.now last) (Command.Has (Ref.Layer named) triple.now)).refused) }
-    ensures told { Tells (W.tells_output site.old) (W.tells_output site.new)
-        (LeavesTold result (step_of (state_of layers.now last) (Command.Has (Ref.Layer named) triple.now)).told (W.told site.old) (W.told site.new)) }
+    ensures told { IsTrue (W.outside site.old).tells_output
+        → LeavesTold result (step_of (state_of layers.now last) (Command.Has (Ref.Layer named) triple.now)).told (W.outside site.old).told (W.outside site.new).told }
     ensures why { IfErr result (λ stop. stop ≡ Stop.OutputFault) }
-    ensures say { CountsSay result (W.say_faults site.old) (W.say_faults site.new) }
-    ensures disk { IsSameDisk W.tells_folder W.now W.disk_faults site.old site.new }
+    ensures says { OnlySays (is_err_and is_output_fault result) (W.outside site.old) (W.outside site.new) }
 {
     match resolve(layers, last, named) {
         Some(layer) => say_has(site, has(layer.triples.as_slice(), triple)),
@@ -68,11 +67,10 @@ pub(crate) fn has_at<W: Site>(
 
 fn say_has<W: Site>(site: &mut W, has: bool) -> Result<Kind, Stop>
     ensures kind { IfOk result (λ kind. kind ≡ Kind.Done) }
-    ensures told { Tells (W.tells_output site.old) (W.tells_output site.new)
-        (LeavesTold result (has_text has) (W.told site.old) (W.told site.new)) }
+    ensures told { IsTrue (W.outside site.old).tells_output
+        → LeavesTold result (has_text has) (W.outside site.old).told (W.outside site.new).told }
     ensures why { IfErr result (λ stop. stop ≡ Stop.OutputFault) }
-    ensures say { CountsSay result (W.say_faults site.old) (W.say_faults site.new) }
-    ensures disk { IsSameDisk W.tells_folder W.now W.disk_faults site.old site.new }
+    ensures says { OnlySays (is_err_and is_output_fault result) (W.outside site.old) (W.outside site.new) }
 {
     if has {
         reply(site, &Reply::Yes)

@@ -1,12 +1,14 @@
 // Doing a command.
 ghost use Rattle.std.specs.Prelude.{◌≡◌, IsTrue, IfOk, IfErr, Err, false};
-ghost use Rattle.ts_site.specs.Telling.{Tells};
+ghost use Rattle.ts_site.specs.Faults.{CountsFault, is_err_and};
 ghost use Rattle.ts_store.specs.Doing.{IsNewest, state_of};
-ghost use Rattle.ts_store.specs.FolderSays.{FolderSays};
 ghost use Rattle.ts_store.specs.Loaded.{AreLoaded, history_kept};
-ghost use Rattle.ts_store.specs.Stands.{LeavesHistory};
 ghost use Rattle.ts_store.specs.Step.{step_of};
-ghost use Rattle.ts_store.specs.Stops.{CountsDisk, CountsSay, IsStepStop, LeavesFolder, LeavesTold, TakesNoMemory, folder_of, is_listing, kind_of};
+ghost use Rattle.ts_store.specs.AfterBase.{LeavesFiles, LeavesHistory, folder_of};
+ghost use Rattle.ts_store.specs.Files.{AreFilesOf};
+ghost use Rattle.ts_store.specs.Leaves.{LeavesTold};
+ghost use Rattle.ts_store.specs.Memory.{TakesNoMemory, is_listing};
+ghost use Rattle.ts_store.specs.Stops.{IsStepStop, KeepsTelling, is_disk_fault, is_output_fault, kind_of};
 
 use crate::answer::refuse;
 use crate::ask::{has_at, list_at};
@@ -31,17 +33,18 @@ pub(crate) fn do_command<W: Site>(
     ensures newest { IsNewest layers.new.items last.new }
     ensures state { let stepped = step_of (state_of layers.old.items last.old) command.now in
         IfOk result (λ kind. (state_of layers.new.items last.new ≡ stepped.state) × (kind ≡ kind_of stepped.refused)) }
-    ensures told { Tells (W.tells_output site.old) (W.tells_output site.new)
-        (LeavesTold result (step_of (state_of layers.old.items last.old) command.now).told (W.told site.old) (W.told site.new)) }
-    ensures folder { Tells (W.tells_folder site.old) (W.tells_folder site.new)
-        (LeavesFolder result (folder_of (W.now site.old) (state_of layers.old.items last.old) command.now) (W.now site.old) (W.now site.new)) }
-    ensures says { IsTrue (W.tells_folder site.old) → FolderSays (W.now site.old) (history_kept layers.old.items)
-        → LeavesHistory (FolderSays (W.now site.new)) result (history_kept layers.old.items) (step_of (state_of layers.old.items last.old) command.now).state.history }
-    ensures why { IfErr result (IsStepStop (state_of layers.old.items last.old) command.now) }
+    ensures told { IsTrue (W.outside site.old).tells_output
+        → LeavesTold result (step_of (state_of layers.old.items last.old) command.now).told (W.outside site.old).told (W.outside site.new).told }
+    ensures folder { IsTrue (W.outside site.old).tells_folder
+        → LeavesFiles result (folder_of (W.outside site.old).folder (state_of layers.old.items last.old) command.now) (W.outside site.old).folder (W.outside site.new).folder }
+    ensures says { IsTrue (W.outside site.old).tells_folder → AreFilesOf (W.outside site.old).folder (history_kept layers.old.items)
+        → LeavesHistory (AreFilesOf (W.outside site.new).folder) result (history_kept layers.old.items) (step_of (state_of layers.old.items last.old) command.now).state.history }
+    ensures why { IfErr result IsStepStop }
     ensures untouched { is_listing command.now ≡ false → result ≡ Err Stop.Memory → site.new ≡ site.old }
     ensures free { TakesNoMemory (state_of layers.old.items last.old) command.now → IfErr result (λ stop. stop ≡ Stop.Memory → ⊥) }
-    ensures disk { CountsDisk result (W.disk_faults site.old) (W.disk_faults site.new) }
-    ensures say { CountsSay result (W.say_faults site.old) (W.say_faults site.new) }
+    ensures disk { CountsFault (is_err_and is_disk_fault result) (W.outside site.old).disk_faults (W.outside site.new).disk_faults }
+    ensures say { CountsFault (is_err_and is_output_fault result) (W.outside site.old).say_faults (W.outside site.new).say_faults }
+    ensures tells { KeepsTelling (W.outside site.old) (W.outside site.new) }
 {
     match command {
         Command::BadTriple { line } => refuse(site, &Refusal::BadTriple(*line)),

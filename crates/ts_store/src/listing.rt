@@ -1,13 +1,14 @@
 // Listing triples.
-ghost use Rattle.std.specs.Prelude.{◌≡◌, ◌++◌, [], IfOk, IfErr, filter, flat_map, length};
+ghost use Rattle.std.specs.Prelude.{◌≡◌, ◌++◌, [], IfOk, IfErr, filter, flat_map, length, IsTrue};
 ghost use Rattle.ts_model.specs.Fits.{fits};
 ghost use Rattle.ts_nt.specs.TripleLine.{triple_line};
 ghost use Rattle.ts_script.specs.Replies.{reply_text};
-ghost use Rattle.ts_site.specs.Output.{IsSameDisk};
-ghost use Rattle.ts_site.specs.Telling.{Tells};
+ghost use Rattle.ts_site.specs.Faults.{is_err_and};
+ghost use Rattle.ts_site.specs.Outside.{OnlySays};
 ghost use Rattle.ts_store.specs.Doing.{IsAskingStop, SaysSoFar};
 ghost use Rattle.ts_store.specs.Step.{listing_text};
-ghost use Rattle.ts_store.specs.Stops.{AreLines, CountsSay, LeavesTold};
+ghost use Rattle.ts_store.specs.Leaves.{AreLines, LeavesTold};
+ghost use Rattle.ts_store.specs.Stops.{is_output_fault};
 
 use crate::{Kind, Stop};
 use std::alloc::Global;
@@ -27,11 +28,10 @@ pub(crate) fn list<W: Site>(
     pattern: &Pattern,
 ) -> Result<Kind, Stop>
     ensures kind { IfOk result (λ kind. kind ≡ Kind.Done) }
-    ensures told { Tells (W.tells_output site.old) (W.tells_output site.new)
-        (LeavesTold result (listing_text (filter (fits pattern.now) triples.now)) (W.told site.old) (W.told site.new)) }
+    ensures told { IsTrue (W.outside site.old).tells_output
+        → LeavesTold result (listing_text (filter (fits pattern.now) triples.now)) (W.outside site.old).told (W.outside site.new).told }
     ensures why { IfErr result IsAskingStop }
-    ensures say { CountsSay result (W.say_faults site.old) (W.say_faults site.new) }
-    ensures disk { IsSameDisk W.tells_folder W.now W.disk_faults site.old site.new }
+    ensures says { OnlySays (is_err_and is_output_fault result) (W.outside site.old) (W.outside site.new) }
 {
     let mut piece = Vec::new(alloc);
     match lines(site, triples, pattern, &mut piece) {
@@ -43,11 +43,10 @@ pub(crate) fn list<W: Site>(
 /// Says what is left of the lines, and how many they are.
 fn end<W: Site>(site: &mut W, piece: &mut Vec<u8>, count: usize) -> Result<Kind, Stop>
     ensures kind { IfOk result (λ kind. kind ≡ Kind.Done) }
-    ensures told { Tells (W.tells_output site.old) (W.tells_output site.new)
-        (LeavesTold result (piece.old.items ++ reply_text (Reply.Total count)) (W.told site.old) (W.told site.new)) }
+    ensures told { IsTrue (W.outside site.old).tells_output
+        → LeavesTold result (piece.old.items ++ reply_text (Reply.Total count)) (W.outside site.old).told (W.outside site.new).told }
     ensures why { IfErr result IsAskingStop }
-    ensures say { CountsSay result (W.say_faults site.old) (W.say_faults site.new) }
-    ensures disk { IsSameDisk W.tells_folder W.now W.disk_faults site.old site.new }
+    ensures says { OnlySays (is_err_and is_output_fault result) (W.outside site.old) (W.outside site.new) }
 {
     let line = reply_line(&Reply::Total(count as u128));
     if piece.extend_from_slice(line.bytes()).is_err() {
@@ -68,11 +67,10 @@ fn lines<W: Site>(
 ) -> Result<usize, Stop>
     requires { piece.old.items ≡ [] }
     ensures count { IfOk result (λ count. count ≡ length (filter (fits pattern.now) triples.now)) }
-    ensures told { Tells (W.tells_output site.old) (W.tells_output site.new)
-        (SaysSoFar result (flat_map triple_line (filter (fits pattern.now) triples.now)) (W.told site.old) (W.told site.new) piece.new.items) }
+    ensures told { IsTrue (W.outside site.old).tells_output
+        → SaysSoFar result (flat_map triple_line (filter (fits pattern.now) triples.now)) (W.outside site.old).told (W.outside site.new).told piece.new.items }
     ensures why { IfErr result IsAskingStop }
-    ensures say { CountsSay result (W.say_faults site.old) (W.say_faults site.new) }
-    ensures disk { IsSameDisk W.tells_folder W.now W.disk_faults site.old site.new }
+    ensures says { OnlySays (is_err_and is_output_fault result) (W.outside site.old) (W.outside site.new) }
 {
     let mut count = 0;
     for triple in triples {
@@ -88,11 +86,10 @@ fn lines<W: Site>(
 
 /// One more line behind those of the piece, which is said once it is long enough.
 fn line<W: Site>(site: &mut W, triple: &Triple, piece: &mut Vec<u8>) -> Result<(), Stop>
-    ensures told { Tells (W.tells_output site.old) (W.tells_output site.new)
-        (SaysSoFar result (piece.old.items ++ triple_line triple.now) (W.told site.old) (W.told site.new) piece.new.items) }
+    ensures told { IsTrue (W.outside site.old).tells_output
+        → SaysSoFar result (piece.old.items ++ triple_line triple.now) (W.outside site.old).told (W.outside site.new).told piece.new.items }
     ensures why { IfErr result IsAskingStop }
-    ensures say { CountsSay result (W.say_faults site.old) (W.say_faults site.new) }
-    ensures disk { IsSameDisk W.tells_folder W.now W.disk_faults site.old site.new }
+    ensures says { OnlySays (is_err_and is_output_fault result) (W.outside site.old) (W.outside site.new) }
 {
     match write_triple(triple, piece) {
         Err(_) => Err(Stop::Memory),
@@ -103,11 +100,10 @@ fn line<W: Site>(site: &mut W, triple: &Triple, piece: &mut Vec<u8>) -> Result<(
 /// Says the piece, which is lines, if it is long enough, and then starts it anew.
 fn say_long<W: Site>(site: &mut W, piece: &mut Vec<u8>) -> Result<(), Stop>
     requires { AreLines piece.old.items }
-    ensures told { Tells (W.tells_output site.old) (W.tells_output site.new)
-        (SaysSoFar result piece.old.items (W.told site.old) (W.told site.new) piece.new.items) }
+    ensures told { IsTrue (W.outside site.old).tells_output
+        → SaysSoFar result piece.old.items (W.outside site.old).told (W.outside site.new).told piece.new.items }
     ensures why { IfErr result IsAskingStop }
-    ensures say { CountsSay result (W.say_faults site.old) (W.say_faults site.new) }
-    ensures disk { IsSameDisk W.tells_folder W.now W.disk_faults site.old site.new }
+    ensures says { OnlySays (is_err_and is_output_fault result) (W.outside site.old) (W.outside site.new) }
 {
     if piece.len() < PIECE {
         return Ok(());

@@ -7,12 +7,13 @@ ghost use Rattle.ts_model.specs.Order.{triple_cmp};
 ghost use Rattle.ts_model.specs.Sets.{from_list, members};
 ghost use Rattle.ts_replace.specs.Names.{IsLayerNumber, label_file_name, layer_name, rollup_name};
 ghost use Rattle.ts_replace.specs.Scanned.{AreThoseOf, Rise};
-ghost use Rattle.ts_site.specs.Output.{IsSameOutput};
-ghost use Rattle.ts_site.specs.Telling.{Tells};
+ghost use Rattle.ts_site.specs.Faults.{is_err_and};
+ghost use Rattle.ts_site.specs.Outside.{OnlyReads};
 ghost use Rattle.ts_store.specs.Doing.{IsFirstOf, IsOtherStop, IsReadFrom};
-ghost use Rattle.ts_store.specs.FolderSays.{FolderSays, IsBaseFile, IsDamagedLayer, IsFirstDamaged, file_of};
 ghost use Rattle.ts_store.specs.Loaded.{AreLoaded, IsLoaded, base_record, history_kept};
-ghost use Rattle.ts_store.specs.Stops.{CountsDisk, IsOpeningStop};
+ghost use Rattle.ts_store.specs.Files.{AreFilesOf, file_of};
+ghost use Rattle.ts_store.specs.FolderSays.{IsBaseFile, IsDamagedLayer, IsFirstDamaged};
+ghost use Rattle.ts_store.specs.Stops.{IsOpeningStop, is_disk_fault};
 
 use crate::Stop;
 use crate::loaded::{Loaded, load};
@@ -24,12 +25,10 @@ use ts_site::{Disk, Site};
 /// Settles what reads, and reads every layer file of the folder.
 pub(crate) fn read_folder<W: Site>(alloc: Global, site: &mut W) -> Result<Vec<Loaded>, Stop>
     ensures loaded { IfOk result (λ layers. AreLoaded layers.items) }
-    ensures folder { Tells (W.tells_folder site.old) (W.tells_folder site.new) ((W.now site.new ≡ W.now site.old)
-        × IfOk result (λ layers. FolderSays (W.now site.old) (history_kept layers.items))
-        × IfErr result (λ stop. (name : List ℕ) → stop ≡ Stop.Damaged name → IsFirstDamaged (W.now site.old) name)) }
+    ensures says { IsTrue (W.outside site.old).tells_folder → IfOk result (λ layers. AreFilesOf (W.outside site.old).folder (history_kept layers.items)) }
+    ensures damaged { IsTrue (W.outside site.old).tells_folder → IfErr result (λ stop. (name : List ℕ) → stop ≡ Stop.Damaged name → IsFirstDamaged (W.outside site.old).folder name) }
     ensures why { IfErr result IsOpeningStop }
-    ensures counts { CountsDisk result (W.disk_faults site.old) (W.disk_faults site.new) }
-    ensures output { IsSameOutput W.tells_output W.told W.say_faults site.old site.new }
+    ensures reads { OnlyReads (is_err_and is_disk_fault result) (W.outside site.old) (W.outside site.new) }
 {
     match site.barrier() {
         Err(_) => Err(Stop::DiskFault),
@@ -45,14 +44,12 @@ pub(crate) fn read_folder<W: Site>(alloc: Global, site: &mut W) -> Result<Vec<Lo
 fn read_found<W: Site>(alloc: Global, site: &mut W, found: &Folder) -> Result<Vec<Loaded>, Stop>
     requires rise { Rise found.now.layers.items found.now.rollups.items found.now.labels.items }
     requires numbers { All IsLayerNumber found.now.layers.items }
-    requires those { IsTrue (W.tells_folder site.old) → AreThoseOf (W.now site.old) found.now.layers.items found.now.rollups.items found.now.labels.items }
+    requires those { IsTrue (W.outside site.old).tells_folder → AreThoseOf (W.outside site.old).folder found.now.layers.items found.now.rollups.items found.now.labels.items }
     ensures loaded { IfOk result (λ layers. AreLoaded layers.items) }
-    ensures folder { Tells (W.tells_folder site.old) (W.tells_folder site.new) ((W.now site.new ≡ W.now site.old)
-        × IfOk result (λ layers. FolderSays (W.now site.old) (history_kept layers.items))
-        × IfErr result (λ stop. (name : List ℕ) → stop ≡ Stop.Damaged name → IsFirstDamaged (W.now site.old) name)) }
+    ensures says { IsTrue (W.outside site.old).tells_folder → IfOk result (λ layers. AreFilesOf (W.outside site.old).folder (history_kept layers.items)) }
+    ensures damaged { IsTrue (W.outside site.old).tells_folder → IfErr result (λ stop. (name : List ℕ) → stop ≡ Stop.Damaged name → IsFirstDamaged (W.outside site.old).folder name) }
     ensures why { IfErr result IsOpeningStop }
-    ensures counts { CountsDisk result (W.disk_faults site.old) (W.disk_faults site.new) }
-    ensures output { IsSameOutput W.tells_output W.told W.say_faults site.old site.new }
+    ensures reads { OnlyReads (is_err_and is_disk_fault result) (W.outside site.old) (W.outside site.new) }
 {
     match read_layers(alloc, site, found.layers.as_slice()) {
         Err(stop) => Err(stop),
@@ -81,15 +78,13 @@ fn no_others(found: &Folder) -> Result<(), Stop>
 fn read_layers<W: Site>(alloc: Global, site: &mut W, numbers: &[u32]) -> Result<Vec<Loaded>, Stop>
     requires rise { IsStrictlyIncreasing numbers.now }
     requires numbers { All IsLayerNumber numbers.now }
-    requires stand { IsTrue (W.tells_folder site.old) → All (λ n. IsTrue (contains_key (W.now site.old) (layer_name n))) numbers.now }
+    requires stand { IsTrue (W.outside site.old).tells_folder → All (λ n. IsTrue (contains_key (W.outside site.old).folder (layer_name n))) numbers.now }
     ensures numbers { IfOk result (λ layers. map (λ loaded. loaded.number) layers.items ≡ numbers.now) }
     ensures loaded { IfOk result (λ layers. AreLoaded layers.items) }
-    ensures folder { Tells (W.tells_folder site.old) (W.tells_folder site.new) ((W.now site.new ≡ W.now site.old)
-        × IfOk result (λ layers. All (IsReadFrom (W.now site.old)) layers.items)
-        × IfErr result (λ stop. (name : List ℕ) → stop ≡ Stop.Damaged name → IsFirstOf (W.now site.old) numbers.now name)) }
+    ensures says { IsTrue (W.outside site.old).tells_folder → IfOk result (λ layers. All (IsReadFrom (W.outside site.old).folder) layers.items) }
+    ensures damaged { IsTrue (W.outside site.old).tells_folder → IfErr result (λ stop. (name : List ℕ) → stop ≡ Stop.Damaged name → IsFirstOf (W.outside site.old).folder numbers.now name) }
     ensures why { IfErr result IsOpeningStop }
-    ensures counts { CountsDisk result (W.disk_faults site.old) (W.disk_faults site.new) }
-    ensures output { IsSameOutput W.tells_output W.told W.say_faults site.old site.new }
+    ensures reads { OnlyReads (is_err_and is_disk_fault result) (W.outside site.old) (W.outside site.new) }
 {
     let mut layers = Vec::new(alloc);
     for number in numbers {
@@ -107,14 +102,12 @@ fn read_layers<W: Site>(alloc: Global, site: &mut W, numbers: &[u32]) -> Result<
 /// Reads the layer of a number.
 fn read_layer<W: Site>(alloc: Global, site: &mut W, number: u32) -> Result<Loaded, Stop>
     requires number { IsLayerNumber number }
-    requires stands { IsTrue (W.tells_folder site.old) → IsTrue (contains_key (W.now site.old) (layer_name number)) }
+    requires stands { IsTrue (W.outside site.old).tells_folder → IsTrue (contains_key (W.outside site.old).folder (layer_name number)) }
     ensures loaded { IfOk result (λ loaded. (loaded.number ≡ number) × IsLoaded loaded) }
-    ensures folder { Tells (W.tells_folder site.old) (W.tells_folder site.new) ((W.now site.new ≡ W.now site.old)
-        × IfOk result (IsReadFrom (W.now site.old))
-        × IfErr result (λ stop. (name : List ℕ) → stop ≡ Stop.Damaged name → IsDamagedLayer (W.now site.old) number × (name ≡ layer_name number))) }
+    ensures says { IsTrue (W.outside site.old).tells_folder → IfOk result (IsReadFrom (W.outside site.old).folder) }
+    ensures damaged { IsTrue (W.outside site.old).tells_folder → IfErr result (λ stop. (name : List ℕ) → stop ≡ Stop.Damaged name → IsDamagedLayer (W.outside site.old).folder number × (name ≡ layer_name number)) }
     ensures why { IfErr result IsOpeningStop }
-    ensures counts { CountsDisk result (W.disk_faults site.old) (W.disk_faults site.new) }
-    ensures output { IsSameOutput W.tells_output W.told W.say_faults site.old site.new }
+    ensures reads { OnlyReads (is_err_and is_disk_fault result) (W.outside site.old) (W.outside site.new) }
 {
     match read_file(alloc, site, &layer_file(number)) {
         Err(ScanFail::Failed) => Err(Stop::DiskFault),

@@ -1,7 +1,7 @@
 // An open folder.
 ghost use Rattle.std.specs.Prelude.{◌≡◌, ℕ, List, None, Some, Err, IsTrue, IfOk, IfErr, option_map, false};
-ghost use Rattle.ts_site.specs.Output.{IsSameOutput};
-ghost use Rattle.ts_site.specs.Telling.{Tells};
+ghost use Rattle.ts_site.specs.Faults.{CountsFault, is_err_and};
+ghost use Rattle.ts_site.specs.Outside.{OnlyReads};
 ghost use Rattle.std.proofs.Props.{props};
 ghost use Rattle.std.specs.List.Sorted.{IsStrictlySortedBy-prop};
 ghost use Rattle.ts_store.specs.Doing.{IsNewest};
@@ -29,23 +29,27 @@ pub struct Session {
 }
 
 impl Session {
+    ghost use Rattle.ts_store.specs.Keeps.{Keeps, spent_by};
+    ghost use Rattle.ts_store.specs.State.{State};
     ghost use Rattle.ts_store.specs.FolderSays.{FolderSays, IsFirstDamaged};
-    ghost use Rattle.ts_store.specs.Kept.{state_kept, spent_by};
-    ghost use Rattle.ts_store.specs.Stands.{LeavesHistory, Stands};
+    ghost use Rattle.ts_store.specs.Keeps.{Keeps, spent_by};
+    ghost use Rattle.ts_store.specs.Leaves.{LeavesFolder, LeavesState, LeavesTold};
+    ghost use Rattle.ts_store.specs.Memory.{TakesNoMemory, is_listing};
+    ghost use Rattle.ts_store.specs.Stands.{Stands};
+    ghost use Rattle.ts_store.specs.Stops.{IsOpeningStop, IsStepStop, KeepsTelling, is_disk_fault, is_output_fault, kind_of, spent_after};
     ghost use Rattle.ts_store.specs.Step.{step_of};
-    ghost use Rattle.ts_store.specs.Stops.{CountsDisk, CountsSay, IsOpeningStop, IsStepStop, LeavesFolder, LeavesTold, TakesNoMemory, folder_of, is_listing, kind_of, spent_after};
     ghost use Rattle.ts_store.specs.declared.stop.Stop.TheVariants.{Damaged, Memory};
 
     /// Opens a folder: settles what reads, and reads every layer file. `Damaged` exactly where a file is the first that isn't
     /// what its name says; else `DiskFault` or `Memory`.
     pub fn open<W: Site>(alloc: Global, site: &mut W) -> Result<Session, Stop>
-        ensures folder { Tells (W.tells_folder site.old) (W.tells_folder site.new) ((W.now site.new ≡ W.now site.old)
-            × IfOk result (λ session. FolderSays (W.now site.old) (state_kept session).history)
-            × IfErr result (λ stop. (name : List ℕ) → stop ≡ Damaged name → IsFirstDamaged (W.now site.old) name)) }
-        ensures fresh { IfOk result (λ session. ((state_kept session).last ≡ None) × (spent_by session ≡ None)) }
+        ensures says { IsTrue (W.outside site.old).tells_folder
+            → IfOk result (λ session. (state : State) × Keeps session state × (state.last ≡ None) × FolderSays (W.outside site.old).folder state) }
+        ensures damaged { IsTrue (W.outside site.old).tells_folder
+            → IfErr result (λ stop. (name : List ℕ) → stop ≡ Damaged name → IsFirstDamaged (W.outside site.old).folder name) }
+        ensures fresh { IfOk result (λ session. (state : State) × Keeps session state × (state.last ≡ None)) }
         ensures why { IfErr result IsOpeningStop }
-        ensures counts { CountsDisk result (W.disk_faults site.old) (W.disk_faults site.new) }
-        ensures output { IsSameOutput W.tells_output W.told W.say_faults site.old site.new }
+        ensures reads { OnlyReads (is_err_and is_disk_fault result) (W.outside site.old) (W.outside site.new) }
     {
         match read_folder(alloc, site) {
             Err(stop) => Err(stop),
@@ -61,28 +65,30 @@ impl Session {
     /// Does one command and says its whole reply. It takes all its memory before it writes. After a stop the session is spent,
     /// and each later step answers that stop and touches nothing.
     pub fn step<W: Site>(&mut self, site: &mut W, command: &Command) -> Result<Kind, Stop>
-        // The state after it and the answer are those of the state before it and the command.
-        ensures state { spent_by self.old ≡ None → IfOk result (λ kind. (state_kept self.new ≡ (step_of (state_kept self.old) command.now).state)
-            × (kind ≡ kind_of (step_of (state_kept self.old) command.now).refused)) }
-        ensures told { spent_by self.old ≡ None → Tells (W.tells_output site.old) (W.tells_output site.new)
-            (LeavesTold result (step_of (state_kept self.old) command.now).told (W.told site.old) (W.told site.new)) }
-        ensures folder { spent_by self.old ≡ None → Tells (W.tells_folder site.old) (W.tells_folder site.new)
-            (LeavesFolder result (folder_of (W.now site.old) (state_kept self.old) command.now) (W.now site.old) (W.now site.new)) }
+        // Whatever state the session keeps: the state after the step and the answer are those of the command there, and what was
+        // said and the folder follow them.
+        ensures state { (state : State) → Keeps self.old state
+            → IfOk result (λ kind. Keeps self.new (step_of state command.now).state × (kind ≡ kind_of (step_of state command.now).refused)) }
+        ensures told { (state : State) → Keeps self.old state → IsTrue (W.outside site.old).tells_output
+            → LeavesTold result (step_of state command.now).told (W.outside site.old).told (W.outside site.new).told }
+        ensures folder { (state : State) → Keeps self.old state → IsTrue (W.outside site.old).tells_folder
+            → LeavesFolder result state (step_of state command.now).state (W.outside site.old).folder (W.outside site.new).folder }
 
-        // A folder that tells the session's history, or stands for it, does so of the next one, or after a stop of one of the two.
-        ensures says { spent_by self.old ≡ None → IsTrue (W.tells_folder site.old) → FolderSays (W.now site.old) (state_kept self.old).history
-            → LeavesHistory (FolderSays (W.now site.new)) result (state_kept self.old).history (step_of (state_kept self.old) command.now).state.history }
-        ensures stands { spent_by self.old ≡ None → IsTrue (W.tells_folder site.old) → Stands (W.now site.old) (state_kept self.old).history
-            → LeavesHistory (Stands (W.now site.new)) result (state_kept self.old).history (step_of (state_kept self.old) command.now).state.history }
-        ensures why { spent_by self.old ≡ None → IfErr result (IsStepStop (state_kept self.old) command.now) }
+        // A folder that tells the state, or stands for it, does so of the next one, or after a stop of one of the two.
+        ensures says { (state : State) → Keeps self.old state → IsTrue (W.outside site.old).tells_folder → FolderSays (W.outside site.old).folder state
+            → LeavesState (FolderSays (W.outside site.new).folder) result state (step_of state command.now).state }
+        ensures stands { (state : State) → Keeps self.old state → IsTrue (W.outside site.old).tells_folder → Stands (W.outside site.old).folder state
+            → LeavesState (Stands (W.outside site.new).folder) result state (step_of state command.now).state }
+        ensures why { spent_by self.old ≡ None → IfErr result IsStepStop }
 
         // Only a listing may have said something when memory runs out, and a step that is refused before it loads takes none.
         ensures untouched { spent_by self.old ≡ None → is_listing command.now ≡ false → result ≡ Err Memory → site.new ≡ site.old }
-        ensures free { spent_by self.old ≡ None → TakesNoMemory (state_kept self.old) command.now → IfErr result (λ stop. stop ≡ Memory → ⊥) }
+        ensures free { (state : State) → Keeps self.old state → TakesNoMemory state command.now → IfErr result (λ stop. stop ≡ Memory → ⊥) }
         ensures spends { spent_by self.old ≡ None → spent_by self.new ≡ spent_after result }
         ensures spent { (stop : Stop) → spent_by self.old ≡ Some stop → (result ≡ Err stop) × (site.new ≡ site.old) × (spent_by self.new ≡ Some stop) }
-        ensures disk { spent_by self.old ≡ None → CountsDisk result (W.disk_faults site.old) (W.disk_faults site.new) }
-        ensures say { spent_by self.old ≡ None → CountsSay result (W.say_faults site.old) (W.say_faults site.new) }
+        ensures disk { spent_by self.old ≡ None → CountsFault (is_err_and is_disk_fault result) (W.outside site.old).disk_faults (W.outside site.new).disk_faults }
+        ensures say { spent_by self.old ≡ None → CountsFault (is_err_and is_output_fault result) (W.outside site.old).say_faults (W.outside site.new).say_faults }
+        ensures tells { KeepsTelling (W.outside site.old) (W.outside site.new) }
     {
         if let Some(stop) = &self.spent {
             return Err(stop.copy());

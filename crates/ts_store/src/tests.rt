@@ -1,5 +1,6 @@
 ghost use Rattle.std.specs.Prelude.{◌≡◌, [], IfOk};
 ghost use Rattle.ts_site.specs.MemorySite.{memory_calls};
+ghost use Rattle.ts_store.specs.Files.{file_of};
 
 use crate::{Kind, Session, Stop};
 use std::alloc::Global;

@@ -1,12 +1,11 @@
-use Rattle.std.proofs.Common.{List, filter, sym, ap, subst, ◌∙◌}
+use Rattle.std.proofs.Common.{IsTrue, List, filter, sym, ap, subst, ◌∙◌}
 use Rattle.ts_model.specs.TextTriple.{TextTriple}
 use Rattle.ts_model.specs.Fits.{fits}
-use Rattle.ts_site.specs.Telling.{Tells}
 use Rattle.ts_store.specs.Step.{Stepped, does, listing_text}
-use Rattle.ts_store.specs.Stops.{LeavesTold}
 use Rattle.ts_store.specs.Doing.{state_of}
 use Rattle.ts_store.proofs.AskLaws.{asked_listing}
 use Rattle.ts_store.proofs.ask.list_at.Goals as goal
+use Rattle.ts_store.specs.Leaves.{LeavesTold}
 
 pub returns-in-Some-clause-told : goal.returns-in-Some-clause-told
 returns-in-Some-clause-told g c =
@@ -16,5 +15,5 @@ returns-in-Some-clause-told g c =
     let state = state_of c.args.layers.now c.args.last in
     let triples = ap (λ (l : List TextTriple). does state (listing_text (filter (fits pattern) l))) c.as_slice.ensures.value in
     let is = asked_listing c.args.layers.now c.args.last c.args.named found some.0 some.1 some.2 pattern in
-    subst (λ (s : Stepped). Tells (g.W.Disk.tells_output c.args.site.now) (g.W.Disk.tells_output c.list.new.site) (LeavesTold c.list.result s.told (g.W.Disk.told c.args.site.now) (g.W.Disk.told c.list.new.site)))
+    subst (λ (s : Stepped). IsTrue (g.W.Disk.outside c.args.site.now).tells_output → LeavesTold c.list.result s.told (g.W.Disk.outside c.args.site.now).told (g.W.Disk.outside c.list.new.site).told)
     (triples ∙ sym is) c.list.ensures.told

@@ -1,6 +1,7 @@
-use Rattle.std.proofs.Common.{◌+◌, ◌∙◌, ap, sym, arith, rules, ℕ}
+use Rattle.std.proofs.Common.{◌+◌, ◌∙◌, Bool, false, IsTrue, ap, sym, subst, arith, ℕ}
 use Rattle.ts_model.specs.Fits.{fits}
 use Rattle.ts_nt.specs.TripleLine.{triple_line}
+use Rattle.ts_store.proofs.CallLaws.{says_more}
 use Rattle.ts_store.proofs.FrontLaws.{count_below, count_more, count_same, lines_more, lines_ended, text_same}
 use Rattle.ts_store.proofs.listing.lines.Goals as goal
 use Rattle.ts_store.proofs.listing.lines.Goals.{then-fits+in-Ok, else-fits}
@@ -10,15 +11,12 @@ overflow_add-count g c =
     omega (arith, count_below (fits c.args.pattern.now) triple_line c.args.triples.now c.loop-triple.triple-index c.loop-triple-test.true)
 
 pub returns-in-Err-clause-told : goal.returns-in-Err-clause-told
-returns-in-Err-clause-told g c =
-    let before = c.loop-triple.invariant.told in
-    let now = c.in-Err.ensures.told in (
-      now.0 ∙ before.0,
-      λ told.
-          let said = now.1 (before.0 ∙ told) in
-          lines_ended (fits c.args.pattern.now) triple_line c.args.triples.now c.loop-triple.triple-index c.triple-item.result c.loop-triple-test.true c.triple-item.is (sym c.fits.ensures ∙ c.if-fits.true)
-          (g.W.Disk.told c.args.site.now) (g.W.Disk.told c.loop-triple.site) (g.W.Disk.told c.line.new.site) c.loop-triple.piece.items said.0 (before.1 told) c.in-Err.stop said.1,
-    )
+returns-in-Err-clause-told g c = λ told.
+    let before = c.loop-triple.invariant in
+    let told_then = subst (λ (b : Bool). IsTrue b) (sym before.says.telling) told in
+    let said = c.in-Err.ensures.told told_then in
+    lines_ended (fits c.args.pattern.now) triple_line c.args.triples.now c.loop-triple.triple-index c.triple-item.result c.loop-triple-test.true c.triple-item.is (sym c.fits.ensures ∙ c.if-fits.true)
+    (g.W.Disk.outside c.args.site.now).told (g.W.Disk.outside c.loop-triple.site).told (g.W.Disk.outside c.line.new.site).told c.loop-triple.piece.items said.0 (before.told told) c.in-Err.stop said.1
 
 pub loop-triple-preserved : goal.loop-triple-preserved
 loop-triple-preserved g c =
@@ -32,23 +30,18 @@ loop-triple-preserved g c =
     elim c.if-fits.branch [
       | then-fits+in-Ok w ↦
           let e = sym c.fits.ensures ∙ w.if-fits.true in
-          let now = w.in-Ok.ensures.told in
+          let now = w.in-Ok.ensures in
           rw (w.site-is, w.piece-is, w.count-is) (record {
             count = ap (λ (n : ℕ). n + 1) before.count ∙ sym (count_more p triple_line xs i x below is e);
-            told = (
-              now.0 ∙ before.told.0,
-              λ told. lines_more p triple_line xs i x below is e (g.W.Disk.told c.args.site.now) (g.W.Disk.told c.loop-triple.site) (g.W.Disk.told w.line.new.site) c.loop-triple.piece.items w.line.new.piece.items
-                  (before.told.1 told) (now.1 (before.told.0 ∙ told)),
-            );
-            say = w.in-Ok.ensures.say ∙ before.say;
-            disk = search rules;
+            told = λ told. lines_more p triple_line xs i x below is e (g.W.Disk.outside c.args.site.now).told (g.W.Disk.outside c.loop-triple.site).told (g.W.Disk.outside w.line.new.site).told c.loop-triple.piece.items w.line.new.piece.items
+                (before.told told) (now.told (subst (λ (b : Bool). IsTrue b) (sym before.says.telling) told));
+            says = says_more false (g.W.Disk.outside c.args.site.now) (g.W.Disk.outside c.loop-triple.site) (g.W.Disk.outside w.line.new.site) before.says now.says;
           })
       | else-fits w ↦
           let e = sym c.fits.ensures ∙ w.if-fits.false in
           rw (w.site-is, w.piece-is, w.count-is) (record {
             count = before.count ∙ sym (count_same p triple_line xs i x below is e);
             told = rw (text_same p triple_line xs i x below is e) before.told;
-            say = before.say;
-            disk = before.disk;
+            says = before.says;
           })
     ]

@@ -1,17 +1,15 @@
-use Rattle.std.proofs.Common.{◌≡◌, map, take, All}
-use Rattle.ts_site.specs.Output.{IsSameOutput}
-use Rattle.ts_site.specs.Telling.{Tells}
+use Rattle.std.proofs.Common.{◌≡◌, false, All, IsTrue, map, take}
+use Rattle.ts_site.specs.Outside.{OnlyReads}
 use Rattle.ts_store.specs.Doing.{IsReadFrom}
 use Rattle.ts_store.specs.Loaded.{IsLoaded}
 use Rattle.ts_store.proofs.open.read_layers.Given as goal
 
 abbrev pub invariant-loop-number : goal.invariant-loop-number
 invariant-loop-number g l =
-    let disk = g.W.Disk in
+    let outside = g.W.Disk.outside in
     record {
       numbers : map (λ loaded. loaded.number) l.layers.items ≡ take l.number-index l.numbers;
       loaded : All IsLoaded l.layers.items;
-      folder : Tells (disk.tells_folder l.initial.site) (disk.tells_folder l.site) ((disk.now l.site ≡ disk.now l.initial.site) × All (IsReadFrom (disk.now l.initial.site)) l.layers.items);
-      counts : disk.disk_faults l.site ≡ disk.disk_faults l.initial.site;
-      output : IsSameOutput disk.tells_output disk.told disk.say_faults l.initial.site l.site;
+      says : IsTrue (outside l.initial.site).tells_folder → All (IsReadFrom (outside l.initial.site).folder) l.layers.items;
+      reads : OnlyReads false (outside l.initial.site) (outside l.site);
     }

@@ -34,5 +34,5 @@ returns-else-is_err-clause-says g c = λ told says.
     let layers = c.args.layers.now.items in
     let made = c.in-Ok-Some.made in
     let is = subst (λ (ls : List Loaded). IsMade (history_kept ls) c.args.body.now made.loaded made.file.items) c.as_slice.ensures.value (rw c.in-Ok-Some.field-0-is at c.in-Ok-Some.ensures.made) in
-    says_after layers c.args.last.now c.args.body.now made.loaded made.file.items c.requires.loaded c.requires.newest is (g.W.Disk.now c.args.site.now) (g.W.Disk.now c.place.new.site) says c.place.result
-    c.place.ensures.why (c.place.ensures.folder.1 told)
+    says_after layers c.args.last.now c.args.body.now made.loaded made.file.items c.requires.loaded c.requires.newest is (g.W.Disk.outside c.args.site.now).folder (g.W.Disk.outside c.place.new.site).folder says c.place.result
+    c.place.ensures.why (c.place.ensures.folder told)

@@ -4,7 +4,7 @@ use Rattle.ts_script.specs.declared.cutter.LineCutter.{LineCutter}
 use Rattle.ts_script.specs.declared.cutter.Span.{Span}
 use Rattle.ts_script.specs.declared.cutter.InputStop.TheVariants.{Fault, Limit}
 use Rattle.ts_script.proofs.CuttingLemmas.{takes-keeps, takes-takes, takes-whole, takes-last, takes-none, left-left}
-use Rattle.ts_script.specs.Cutting.{line_at, Takes, GivesLine, HasEnded, NextIs}
+use Rattle.ts_script.specs.Cutting.{view_at, Takes, GivesLine, HasEnded, NextIs}
 use Rattle.ts_script.proofs.cutter.LineCutter.advance.Goals as goal
 
 fault_is_not_limit : Fault ≡ Limit → ⊥
@@ -14,9 +14,9 @@ apart : (a b : Bool) → a ≡ true → b ≡ a → b ≡ false → ⊥
 apart a b is same is_not = let e : true ≡ false = sym is ∙ sym same ∙ is_not in cc
 
 -- what the last line makes of the bytes that were taken
-next-end : (a b c : LineCutter) (bytes : List ℕ) (answer : Option Span) → Takes a b bytes → IfSome answer (λ span. GivesLine b c [] (line_at c span)) → IfNone answer (HasEnded b c [])
-    → NextIs (line_at c) a c bytes (Ok answer)
-next-end a b c bytes (Some span) first some none = takes-last a b c bytes (line_at c span) first some
+next-end : (a b c : LineCutter) (bytes : List ℕ) (answer : Option Span) → Takes a b bytes → IfSome answer (λ span. GivesLine b c [] (view_at c span)) → IfNone answer (HasEnded b c [])
+    → NextIs (view_at c) a c bytes (Ok answer)
+next-end a b c bytes (Some span) first some none = takes-last a b c bytes (view_at c span) first some
 next-end a b c bytes None first some none = takes-none a b c bytes first none
 
 pub loop-span-preserved : goal.loop-span-preserved
@@ -56,7 +56,7 @@ pub returns-in-Some-clause-next : goal.returns-in-Some-clause-next
 returns-in-Some-clause-next g c =
     let so_far = c.loop-span.invariant in (
       so_far.0,
-      takes-whole c.args.self.now c.loop-span.self c.whole_line.new.self so_far.0 (line_at c.whole_line.new.self c.in-Some.span) so_far.1.takes c.in-Some.ensures.some,
+      takes-whole c.args.self.now c.loop-span.self c.whole_line.new.self so_far.0 (view_at c.whole_line.new.self c.in-Some.span) so_far.1.takes c.in-Some.ensures.some,
       (so_far.1.tells, so_far.1.left),
     )
 

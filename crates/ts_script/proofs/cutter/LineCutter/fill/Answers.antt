@@ -1,5 +1,5 @@
 use Rattle.std.proofs.Common.{◌≡◌, ◌+◌, ◌++◌, ◌-◌, Bool, List, [], ℕ, ◌≤◌, true, false, length, drop, slice_range, refl, sym, ◌∙◌, ap, arith, inl, inr}
-use Rattle.ts_script.proofs.LinesLemmas.{waiting-more, waiting-kept, no_end-kept, taken_front, length-slice_range}
+use Rattle.ts_script.proofs.LinesLemmas.{buffered-more, buffered-kept, no_end-kept, taken_front, length-slice_range}
 use Rattle.ts_script.specs.Lines.{lines_behind, feed_of, first_length}
 use Rattle.ts_script.proofs.cutter.LineCutter.fill.Goals as goal
 
@@ -34,12 +34,12 @@ returns-in-Err-clause-takes g c =
       [],
       record {
         takes = record {
-          lines = λ more. ap (lines_behind mid.is_overlong mid.after_return) (waiting-kept mid.buffer.items after more mid.end mid.start c.take_into.ensures.before) ∙ made.takes.lines more;
+          lines = λ more. ap (lines_behind mid.is_overlong mid.after_return) (buffered-kept mid.buffer.items after more mid.end mid.start c.take_into.ensures.before) ∙ made.takes.lines more;
           taken = made.takes.taken;
           limit = made.takes.limit;
           number = made.takes.number;
-          place = λ more. ap (λ (text : List ℕ). mid.passed + feed_of mid.after_return text) (waiting-kept mid.buffer.items after more mid.end mid.start c.take_into.ensures.before) ∙ made.takes.place more;
-          end = λ more. ap (λ (text : List ℕ). mid.taken - (mid.end - mid.start) + first_length mid.after_return text) (waiting-kept mid.buffer.items after more mid.end mid.start c.take_into.ensures.before) ∙ made.takes.end more;
+          offset = λ more. ap (λ (text : List ℕ). mid.passed + feed_of mid.after_return text) (buffered-kept mid.buffer.items after more mid.end mid.start c.take_into.ensures.before) ∙ made.takes.offset more;
+          end = λ more. ap (λ (text : List ℕ). mid.taken - (mid.end - mid.start) + first_length mid.after_return text) (buffered-kept mid.buffer.items after more mid.end mid.start c.take_into.ensures.before) ∙ made.takes.end more;
           ended = λ is. made.ended ∙ is;
         };
         cause = (
@@ -67,12 +67,12 @@ returns-in-Ok-eq0-clause-takes g c =
       [],
       record {
         takes = record {
-          lines = λ more. ap (lines_behind mid.is_overlong mid.after_return) (waiting-kept mid.buffer.items after more mid.end mid.start c.take_into.ensures.before) ∙ made.takes.lines more;
+          lines = λ more. ap (lines_behind mid.is_overlong mid.after_return) (buffered-kept mid.buffer.items after more mid.end mid.start c.take_into.ensures.before) ∙ made.takes.lines more;
           taken = made.takes.taken;
           limit = made.takes.limit;
           number = made.takes.number;
-          place = λ more. ap (λ (text : List ℕ). mid.passed + feed_of mid.after_return text) (waiting-kept mid.buffer.items after more mid.end mid.start c.take_into.ensures.before) ∙ made.takes.place more;
-          end = λ more. ap (λ (text : List ℕ). mid.taken - (mid.end - mid.start) + first_length mid.after_return text) (waiting-kept mid.buffer.items after more mid.end mid.start c.take_into.ensures.before) ∙ made.takes.end more;
+          offset = λ more. ap (λ (text : List ℕ). mid.passed + feed_of mid.after_return text) (buffered-kept mid.buffer.items after more mid.end mid.start c.take_into.ensures.before) ∙ made.takes.offset more;
+          end = λ more. ap (λ (text : List ℕ). mid.taken - (mid.end - mid.start) + first_length mid.after_return text) (buffered-kept mid.buffer.items after more mid.end mid.start c.take_into.ensures.before) ∙ made.takes.end more;
           ended = λ is. refl;
         };
         cause = tt;
@@ -106,15 +106,15 @@ returns-in-Ok-clause-takes g c =
       slice_range after mid.end (mid.end + k),
       record {
         takes = record {
-          lines = λ more. ap (lines_behind mid.is_overlong mid.after_return) (waiting-more mid.buffer.items after more mid.end mid.start k c.take_into.ensures.before (omega arith))
+          lines = λ more. ap (lines_behind mid.is_overlong mid.after_return) (buffered-more mid.buffer.items after more mid.end mid.start k c.take_into.ensures.before (omega arith))
               ∙ made.takes.lines (slice_range after mid.end (mid.end + k) ++ more);
           taken = omega arith;
           limit = made.takes.limit;
           number = made.takes.number;
-          place = λ more. ap (λ (text : List ℕ). mid.passed + feed_of mid.after_return text) (waiting-more mid.buffer.items after more mid.end mid.start k c.take_into.ensures.before (omega arith))
-              ∙ made.takes.place (slice_range after mid.end (mid.end + k) ++ more);
+          offset = λ more. ap (λ (text : List ℕ). mid.passed + feed_of mid.after_return text) (buffered-more mid.buffer.items after more mid.end mid.start k c.take_into.ensures.before (omega arith))
+              ∙ made.takes.offset (slice_range after mid.end (mid.end + k) ++ more);
           end = λ more. gone mid.taken mid.end mid.start k _ (omega arith) (omega arith)
-              ∙ ap (λ (text : List ℕ). mid.taken - (mid.end - mid.start) + first_length mid.after_return text) (waiting-more mid.buffer.items after more mid.end mid.start k c.take_into.ensures.before (omega arith))
+              ∙ ap (λ (text : List ℕ). mid.taken - (mid.end - mid.start) + first_length mid.after_return text) (buffered-more mid.buffer.items after more mid.end mid.start k c.take_into.ensures.before (omega arith))
               ∙ made.takes.end (slice_range after mid.end (mid.end + k) ++ more);
           ended = λ is. made.ended ∙ is;
         };

@@ -1,7 +1,7 @@
 use Rattle.std.proofs.Common.{◌≡◌, ◌⊎◌, ◌<◌, ◌-◌, ℕ, Bool, List, slice_range, true, false, length, refl, sym, arith, inl, inr}
-use Rattle.ts_script.specs.Cutting.{waiting}
+use Rattle.ts_script.specs.Cutting.{buffered}
 use Rattle.ts_script.proofs.LinesLemmas.{lines_behind-last, lines_behind-nil, no_end-empty, length-slice_range, not_after_return}
-use Rattle.ts_script.proofs.PlaceLemmas.{place-here, not_return, feed-none}
+use Rattle.ts_script.proofs.OffsetLemmas.{offset-here, not_return, feed-none}
 use Rattle.ts_script.proofs.EndLemmas.{first_length-last}
 use Rattle.ts_script.specs.Lines.{feed_of}
 use Rattle.ts_script.proofs.cutter.LineCutter.last_line.Goals as goal
@@ -17,30 +17,30 @@ pub returns-then-not-has_rest-clause-none : goal.returns-then-not-has_rest-claus
 returns-then-not-has_rest-clause-none c =
     let old = c.args.self.now in
     let nothing = lines_behind-nil old.is_overlong old.after_return old.buffer.items old.start old.end (c.has_rest.ensures.whole c.if-not-has_rest.true) (c.has_rest.ensures.none c.if-not-has_rest.true) in
-    record { ended = c.requires.ended; none = nothing; after = nothing; taken = omega arith; limit = refl; number = refl; place = sym (place-here old) }
+    record { ended = c.requires.ended; none = nothing; after = nothing; taken = omega arith; limit = refl; number = refl; offset = sym (offset-here old) }
 
 pub returns-clause-some : goal.returns-clause-some
 returns-clause-some c =
     let old = c.args.self.now in
-    let long : length (waiting old) ≡ old.end - old.start = length-slice_range old.buffer.items old.start old.end (omega arith) (omega arith) in
-    let some : (old.is_overlong ≡ true) ⊎ (0 < length (waiting old)) = elim (c.has_rest.ensures.what c.if-not-has_rest.false) [ inl is ↦ inl is | inr lt ↦ inr (omega arith) ] in
+    let long : length (buffered old) ≡ old.end - old.start = length-slice_range old.buffer.items old.start old.end (omega arith) (omega arith) in
+    let some : (old.is_overlong ≡ true) ⊎ (0 < length (buffered old)) = elim (c.has_rest.ensures.what c.if-not-has_rest.false) [ inl is ↦ inl is | inr lt ↦ inr (omega arith) ] in
     record {
       next = inr (
         c.requires.ended,
         rw (c.span_of-span.ensures.line old.buffer.items (omega arith))
-            (lines_behind-last old.is_overlong old.after_return (waiting old) (λ more. not_after_return old.after_return old.start old.end c.requires.none.settled (omega arith)) c.requires.none.no_end some),
+            (lines_behind-last old.is_overlong old.after_return (buffered old) (λ more. not_after_return old.after_return old.start old.end c.requires.none.settled (omega arith)) c.requires.none.no_end some),
         lines_behind-nil false old.after_return old.buffer.items old.end old.end refl refl,
       );
       taken = omega arith;
       limit = refl;
       number = refl;
-      place = omega (
+      offset = omega (
         arith,
         c.has_rest.ensures.some c.if-not-has_rest.false,
-        feed-none old.after_return (waiting old) (not_return old.is_overlong old.after_return old.start old.end old.one_of_two c.requires.none.settled (c.has_rest.ensures.what c.if-not-has_rest.false)),
+        feed-none old.after_return (buffered old) (not_return old.is_overlong old.after_return old.start old.end old.one_of_two c.requires.none.settled (c.has_rest.ensures.what c.if-not-has_rest.false)),
       );
       end =
-          let last = first_length-last old.after_return (waiting old) (λ more. not_after_return old.after_return old.start old.end c.requires.none.settled (omega arith)) c.requires.none.no_end in
+          let last = first_length-last old.after_return (buffered old) (λ more. not_after_return old.after_return old.start old.end c.requires.none.settled (omega arith)) c.requires.none.no_end in
           omega (arith, feed-nothing old.after_return old.buffer.items old.end, last, long);
       begins = refl;
       ended = λ is. is;

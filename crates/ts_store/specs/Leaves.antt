@@ -1,0 +1,52 @@
+-- What a step leaves of the folder, the state and the output, by how it was answered.
+use Rattle.std.specs.Prelude.{◌≡◌, ◌⊎◌, ℕ, ◌<◌, List, [], ◌∷◌, ◌++◌, take, length, Result, Ok, Err}
+use Rattle.std.specs.FinMap.{insert}
+use Rattle.ts_model.specs.History.{LayerRecord}
+use Rattle.ts_replace.specs.Names.{layer_name}
+use Rattle.ts_replace.specs.Replaced.{new_tmp, replaced}
+use Rattle.ts_site.specs.Folder.{Folder, IsAnyAt}
+use Rattle.ts_store.specs.declared.stop.Stop.{Stop}
+use Rattle.ts_store.specs.declared.stop.Stop.TheVariants.{DiskFault, OutputFault, Memory}
+use Rattle.ts_store.specs.declared.stop.Kind.{Kind}
+use Rattle.ts_store.specs.FolderSays.{IsFileOf}
+use Rattle.ts_store.specs.State.{State}
+use Rattle.ts_store.specs.Step.{next_number}
+
+-- the folder has one file more: that of the next layer
+pub record AddsLayer (before after : State) (old new : Folder) : Type 0 where
+  pub layer : LayerRecord
+  pub history : after.history ≡ insert before.history (next_number before.history) layer
+  pub file : List ℕ
+  pub is_file : IsFileOf after.history (next_number before.history) file
+  pub folder : new ≡ replaced old (layer_name (next_number before.history)) file
+
+-- the folder follows the state from one to the next: as it was where the history is, and else with the file of the new layer
+abbrev pub Follows : State → State → Folder → Folder → Type 0
+Follows before after old new = ((after.history ≡ before.history) × (new ≡ old)) ⊎ AddsLayer before after old new
+
+-- It follows, also where only the reply was not said; at a fault of the disk it follows, or is as it was but for the temporary
+-- file; else it is as it was.
+abbrev pub LeavesFolder : Result Kind Stop → State → State → Folder → Folder → Type 0
+LeavesFolder (Ok kind) before after old new = Follows before after old new
+LeavesFolder (Err OutputFault) before after old new = Follows before after old new
+LeavesFolder (Err DiskFault) before after old new = IsAnyAt new_tmp old new ⊎ ((new ≡ old) ⊎ Follows before after old new)
+LeavesFolder (Err _) before after old new = new ≡ old
+
+-- What is true of the state after the step, also where only its reply was not said; of the one before it; at a fault of the disk
+-- of one of the two.
+abbrev pub LeavesState : (State → Type 0) → Result Kind Stop → State → State → Type 0
+LeavesState Is (Ok kind) before after = Is after
+LeavesState Is (Err OutputFault) before after = Is after
+LeavesState Is (Err DiskFault) before after = Is before ⊎ Is after
+LeavesState Is (Err _) before after = Is before
+
+-- no text, or a text that ends with a line
+abbrev pub AreLines : List ℕ → Type 0
+AreLines text = (text ≡ []) ⊎ ((front : List ℕ) × (text ≡ front ++ 10 ∷ []))
+
+-- what a step says: its whole reply; a front of it where the output failed; where memory ran out some of its lines, but not all
+abbrev pub LeavesTold : Result Kind Stop → List ℕ → List ℕ → List ℕ → Type 0
+LeavesTold (Ok kind) text old new = new ≡ old ++ text
+LeavesTold (Err OutputFault) text old new = (n : ℕ) × (new ≡ old ++ take n text)
+LeavesTold (Err Memory) text old new = (n : ℕ) × (n < length text) × AreLines (take n text) × (new ≡ old ++ take n text)
+LeavesTold (Err _) text old new = new ≡ old
