@@ -1,7 +1,7 @@
 -- The causes of the stops of a run that read its command.
 use Rattle.std.proofs.Common.{◌≡◌, ◌⊎◌, ℕ, ◌^◌, ◌<◌, Bool, true, IsTrue, List, length, Option, None, Some, Result, Ok, Err, inl, inr, refl, sym, ap, ◌∙◌, subst, arith}
 use Rattle.std.specs.Prelude.{MatchBool}
-use Rattle.ts_script.specs.Words.{IsNoCommand}
+use Rattle.ts_script.specs.Commands.{IsNoCommand}
 use Rattle.ts_store.specs.declared.stop.Kind.{Kind}
 use Rattle.ts_store.specs.declared.stop.Stop.{Stop}
 use Rattle.ts_store.specs.declared.stop.Stop.TheVariants.{Usage, Damaged, DiskFault, InputFault, OutputFault, InputLimit, Memory}
@@ -38,7 +38,7 @@ module _ (outcome : Outcome) (answer : Result Kind Stop) (is : outcome ≡ outco
       by_stop (Some InputLimit) e = same
       by_stop (Some Memory) e = same
 
-  pub limit_read : (reads tells : Bool) (left left_after : List ℕ) → (IsTrue tells → reads ≡ true → length left < 2 ^ 40) → LimitCause reads tells left left_after outcome.stop
+  pub limit_read : (reads : Type 0) (tells : Bool) (left left_after : List ℕ) → (IsTrue tells → reads → length left < 2 ^ 40) → LimitCause reads tells left left_after outcome.stop
   limit_read reads tells left left_after short = (λ wants. absurd (not_reading InputLimit tt wants), λ reading told long after. let below = short told reading in omega (arith, below, long))
 
   pub fault_is : (test : Stop → Bool) (old new : ℕ) → CountsFault (is_err_and test answer) old new → CountsFault (is_stop_and test outcome.stop) old new

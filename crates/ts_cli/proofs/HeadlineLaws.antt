@@ -4,7 +4,7 @@ use Rattle.ts_store.specs.State.{State}
 use Rattle.ts_store.specs.Step.{step_of}
 use Rattle.ts_store.proofs.StateLaws.{files_of}
 use Rattle.ts_script.specs.Lines.{lines_of}
-use Rattle.ts_script.specs.Words.{IsCommand}
+use Rattle.ts_script.specs.Commands.{IsCommand}
 use Rattle.ts_script.specs.declared.command.Command.{Command}
 use Rattle.ts_script.proofs.CommandLaws.{same_command}
 use Rattle.ts_store.specs.declared.stop.Kind.{Kind}

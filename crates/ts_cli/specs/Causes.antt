@@ -1,6 +1,6 @@
 -- What each stop of a run comes from.
 use Rattle.std.specs.Prelude.{◌≡◌, ◌⊎◌, ℕ, ◌^◌, ◌≤◌, Bool, true, false, IsTrue, List, drop, length, Option, None, Some}
-use Rattle.ts_script.specs.Words.{IsNoCommand}
+use Rattle.ts_script.specs.Commands.{IsNoCommand}
 use Rattle.ts_site.specs.Folder.{Folder}
 use Rattle.ts_store.specs.declared.stop.Stop.{Stop}
 use Rattle.ts_store.specs.declared.stop.Stop.TheVariants.{Usage, Damaged, DiskFault, InputFault, InputLimit, Memory}
@@ -40,7 +40,7 @@ IsOverLimit left left_after = (2 ^ 40 ≤ length left) × (left_after ≡ drop (
 
 -- The limit stops only an input that is read. Where the input is told it is over the limit then, and one that is read and over the
 -- limit is stopped so, unless another stop came before.
-abbrev pub LimitCause : Bool → Bool → List ℕ → List ℕ → Option Stop → Type 0
+abbrev pub LimitCause : Type 0 → Bool → List ℕ → List ℕ → Option Stop → Type 0
 LimitCause reads tells left left_after stop =
-    (stop ≡ Some InputLimit → (reads ≡ true) × (IsTrue tells → IsOverLimit left left_after))
-    × (reads ≡ true → IsTrue tells → 2 ^ 40 ≤ length left → IsAfterReading stop → ⊥)
+    (stop ≡ Some InputLimit → reads × (IsTrue tells → IsOverLimit left left_after))
+    × (reads → IsTrue tells → 2 ^ 40 ≤ length left → IsAfterReading stop → ⊥)

@@ -1,7 +1,7 @@
 -- What a run leaves of a folder that is told, and of the output.
 use Rattle.std.specs.Prelude.{◌≡◌, ◌⊎◌, ℕ, List, Bool, IsTrue, None, Result, Ok, Err, IfOk}
 use Rattle.ts_script.specs.Lines.{lines_of}
-use Rattle.ts_script.specs.Words.{IsCommand}
+use Rattle.ts_script.specs.Commands.{IsCommand}
 use Rattle.ts_script.specs.declared.command.Command.{Command}
 use Rattle.ts_store.specs.declared.stop.Kind.{Kind}
 use Rattle.ts_store.specs.declared.stop.Stop.{Stop}

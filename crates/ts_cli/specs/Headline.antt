@@ -2,7 +2,7 @@
 use Rattle.std.specs.Prelude.{◌≡◌, ◌⊎◌, ℕ, ◌+◌, if◌then◌else◌, List, [], ◌∷◌, ◌++◌, length, take, MatchOption}
 use Rattle.ts_site.specs.Folder.{Folder}
 use Rattle.ts_script.specs.Lines.{lines_of}
-use Rattle.ts_script.specs.Words.{IsCommand}
+use Rattle.ts_script.specs.Commands.{IsCommand}
 use Rattle.ts_script.specs.declared.command.Command.{Command}
 use Rattle.ts_store.specs.declared.stop.Stop.{Stop}
 use Rattle.ts_store.specs.declared.stop.Stop.TheVariants.{DiskFault, OutputFault}

@@ -1,7 +1,7 @@
 // One run: words, input and folder to an outcome.
 ghost use Rattle.std.specs.Prelude.{◌≡◌, ◌⊎◌, ◌<◌, ◌^◌, ℕ, List, [], IsTrue, IfOk, IfErr, OnOk, Result, length, map, string_bytes, true, false, None, Some, Err};
 ghost use Rattle.ts_site.specs.Faults.{CountsFault, IsCalm, is_err_and};
-ghost use Rattle.ts_script.specs.Words.{are_base, IsNoCommand};
+ghost use Rattle.ts_script.specs.Commands.{AwaitBody, IsNoCommand};
 ghost use Rattle.ts_store.specs.FolderSays.{IsFirstDamaged};
 ghost use Rattle.ts_store.specs.Stands.{Stands};
 ghost use Rattle.ts_store.specs.State.{State};
@@ -27,11 +27,11 @@ fn read_command<S: Source>(alloc: Global, words: &[String], input: &mut S) -> Re
     ensures asks { IfOk result (Asks (map string_bytes words.now) (S.tells input.old) (S.left input.old)) }
     ensures usage { IfErr result (λ stop. stop ≡ Stop.Usage → IsNoCommand (map string_bytes words.now)) }
     ensures no_command { IsNoCommand (map string_bytes words.now) → (result ≡ Err Stop.Usage) ⊎ (result ≡ Err Stop.Memory) }
-    ensures untouched { are_base (map string_bytes words.now) ≡ false → input.new ≡ input.old }
-    ensures all { IsTrue (S.tells input.old) → are_base (map string_bytes words.now) ≡ true → OnOk result (S.left input.new ≡ []) }
-    ensures short { IsTrue (S.tells input.old) → are_base (map string_bytes words.now) ≡ true → OnOk result (length (S.left input.old) < 2 ^ 40) }
+    ensures untouched { (AwaitBody (map string_bytes words.now) → ⊥) → input.new ≡ input.old }
+    ensures all { IsTrue (S.tells input.old) → AwaitBody (map string_bytes words.now) → OnOk result (S.left input.new ≡ []) }
+    ensures short { IsTrue (S.tells input.old) → AwaitBody (map string_bytes words.now) → OnOk result (length (S.left input.old) < 2 ^ 40) }
     ensures limit { IsTrue (S.tells input.old) → IfErr result (λ stop. stop ≡ Stop.InputLimit → IsOverLimit (S.left input.old) (S.left input.new)) }
-    ensures reads { IfErr result (λ stop. stop ≡ Stop.InputLimit → are_base (map string_bytes words.now) ≡ true) }
+    ensures reads { IfErr result (λ stop. stop ≡ Stop.InputLimit → AwaitBody (map string_bytes words.now)) }
     ensures why { IfErr result (λ stop. (stop ≡ Stop.Memory) ⊎ IsReadingStop stop) }
     ensures counts { CountsFault (is_err_and is_input_fault result) (S.faults input.old) (S.faults input.new) }
     ensures tells { S.tells input.new ≡ S.tells input.old }
@@ -84,11 +84,11 @@ pub fn run<W: Site, S: Source>(
         × CountsFault (is_stop_and is_output_fault result.stop) (W.outside site.old).say_faults (W.outside site.new).say_faults
         × CountsFault (is_stop_and is_input_fault result.stop) (S.faults input.old) (S.faults input.new)
         × (IsTrue (W.outside site.old).tells_folder → DamagedCause (W.outside site.old).folder result.stop)
-        × LimitCause (are_base (map string_bytes words.now)) (S.tells input.old) (S.left input.old) (S.left input.new) result.stop }
+        × LimitCause (AwaitBody (map string_bytes words.now)) (S.tells input.old) (S.left input.old) (S.left input.new) result.stop }
 
     // Where nothing fails, there is no stop but want of memory.
     ensures complete { (IsNoCommand (map string_bytes words.now) → ⊥)
-        → (are_base (map string_bytes words.now) ≡ true → IsTrue (S.tells input.old) × (length (S.left input.old) < 2 ^ 40))
+        → (AwaitBody (map string_bytes words.now) → IsTrue (S.tells input.old) × (length (S.left input.old) < 2 ^ 40))
         → IsTrue (W.outside site.old).tells_folder → ((name : List ℕ) → IsFirstDamaged (W.outside site.old).folder name → ⊥)
         → IsCalm (W.outside site.old).disk_faults (W.outside site.new).disk_faults → IsCalm (W.outside site.old).say_faults (W.outside site.new).say_faults
         → IsCalm (S.faults input.old) (S.faults input.new) → (result.stop ≡ None) ⊎ (result.stop ≡ Some Stop.Memory) }
@@ -103,8 +103,8 @@ pub fn run<W: Site, S: Source>(
     // end.
     ensures untouched { IsNoCommand (map string_bytes words.now) → (site.new ≡ site.old) × (input.new ≡ input.old) }
     ensures read_first { (stop : Stop) → result.stop ≡ Some stop → IsReadingStop stop → site.new ≡ site.old }
-    ensures read_all { IsTrue (S.tells input.old) → are_base (map string_bytes words.now) ≡ true → IsAfterReading result.stop → S.left input.new ≡ [] }
-    ensures unread { are_base (map string_bytes words.now) ≡ false → input.new ≡ input.old }
+    ensures read_all { IsTrue (S.tells input.old) → AwaitBody (map string_bytes words.now) → IsAfterReading result.stop → S.left input.new ≡ [] }
+    ensures unread { (AwaitBody (map string_bytes words.now) → ⊥) → input.new ≡ input.old }
     ensures tells { KeepsTelling (W.outside site.old) (W.outside site.new) × (S.tells input.new ≡ S.tells input.old) }
 {
     match read_command(alloc, words, input) {
