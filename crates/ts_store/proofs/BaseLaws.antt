@@ -22,7 +22,7 @@ use Rattle.ts_model.specs.Birth.{birth_of, mentions, first_place}
 use Rattle.ts_model.specs.Listing.{birth_cmp, listing}
 use Rattle.ts_model.proofs.HistoryLaws.{chain_within-none}
 use Rattle.ts_model.proofs.SetLaws.{contains-from_list, contains-members, members_are}
-use Rattle.ts_store.specs.Loaded.{base_key_cmp, base_cmp, base_record}
+use Rattle.ts_store.specs.BaseLayers.{base_key_cmp, base_cmp, base_record}
 
 -- ---- the order
 

@@ -15,11 +15,11 @@ use Rattle.ts_model.specs.Names.{IsLabelName}
 use Rattle.ts_replace.specs.Names.{IsLayerNumber, layer_name, rollup_name, label_file_name}
 use Rattle.ts_replace.specs.Scanned.{AreThoseOf, Rise}
 use Rattle.ts_site.specs.Folder.{Folder}
-use Rattle.ts_store.specs.declared.loaded.Loaded.{Loaded}
+use Rattle.ts_store.specs.declared.base_layer.BaseLayer.{BaseLayer}
 use Rattle.ts_store.specs.declared.stop.Stop.{Stop}
 use Rattle.ts_store.specs.declared.stop.Stop.TheVariants.{Damaged}
-use Rattle.ts_store.specs.Doing.{IsReadFrom, IsFirstOf, IsOtherStop}
-use Rattle.ts_store.specs.Loaded.{AreLoaded, IsLoaded, base_record, history_kept, loaded_entry}
+use Rattle.ts_store.specs.StepParts.{IsReadFrom, IsFirstOf, IsOtherStop}
+use Rattle.ts_store.specs.BaseLayers.{AreBaseLayers, IsBaseLayer, base_record, history_of_bases, entry_of}
 use Rattle.ts_store.proofs.LookupLaws.{get-at}
 use Rattle.ts_store.proofs.OpenLaws.{read_at, read_soundly}
 use Rattle.ts_store.specs.Files.{AreFilesOf, IsBase, file_of}
@@ -28,16 +28,16 @@ use Rattle.ts_store.specs.FolderSays.{AreSoundLayers, IsDamagedLayer, IsFirstDam
 none_in : {A : Type 0} (xs : List A) (x : A) → xs ≡ [] → Contains xs x → ⊥
 none_in xs x none (i, lt, is) = omega (arith, lt, ap length none)
 
-abbrev Found : List Loaded → ℕ → LayerRecord → Type 0
-Found ls k layer = (l : Loaded) × Contains ls l × (k ≡ l.number) × (base_record l.triples.items ≡ layer)
+abbrev Found : List BaseLayer → ℕ → LayerRecord → Type 0
+Found ls k layer = (l : BaseLayer) × Contains ls l × (k ≡ l.number) × (base_record l.triples.items ≡ layer)
 
-later : (x : Loaded) (xs : List Loaded) (k : ℕ) (layer : LayerRecord) → Found xs k layer → Found (x ∷ xs) k layer
+later : (x : BaseLayer) (xs : List BaseLayer) (k : ℕ) (layer : LayerRecord) → Found xs k layer → Found (x ∷ xs) k layer
 later x xs k layer (l, (i, lt, at), number, is) = (l, (suc i, omega arith, at), number, is)
 
-found_in : (ls : List Loaded) (k : ℕ) (layer : LayerRecord) → find nat_cmp k (map loaded_entry ls) ≡ Some layer → Found ls k layer
+found_in : (ls : List BaseLayer) (k : ℕ) (layer : LayerRecord) → find nat_cmp k (map entry_of ls) ≡ Some layer → Found ls k layer
 found_in [] k layer e = let none : false ≡ true = ap is_some e in absurd (true≢false (sym none))
 found_in (x ∷ xs) k layer e =
-    elim (eq_by_cmp nat_cmp k x.number) as (λ b. eq_by_cmp nat_cmp k x.number ≡ b → cond b (Some (base_record x.triples.items)) (find nat_cmp k (map loaded_entry xs)) ≡ Some layer → Found (x ∷ xs) k layer) [
+    elim (eq_by_cmp nat_cmp k x.number) as (λ b. eq_by_cmp nat_cmp k x.number ≡ b → cond b (Some (base_record x.triples.items)) (find nat_cmp k (map entry_of xs)) ≡ Some layer → Found (x ∷ xs) k layer) [
       | true ↦ λ same is. let here : base_record x.triples.items ≡ layer = cc in (x, (0, omega arith, refl), nat_cmp-IsAntisymmetric k x.number ((Equal-is (nat_cmp k x.number)).0 same), here)
       | false ↦ λ other is. later x xs k layer (found_in xs k layer is)
     ] refl e
@@ -50,26 +50,26 @@ module _ (folder : Folder) (numbers rollups : List ℕ) (labels : List (List ℕ
   pub first_layer : (name : List ℕ) → IsFirstOf folder numbers name → IsFirstDamaged folder name
   first_layer name first = inl (first.number, first.damaged, first.named, λ j less damaged. first.first j (stands_among j damaged) less damaged)
 
-  module _ (layers : List Loaded) (is : map (λ (l : Loaded). l.number) layers ≡ numbers) (read : All (IsReadFrom folder) layers) where
+  module _ (layers : List BaseLayer) (is : map (λ (l : BaseLayer). l.number) layers ≡ numbers) (read : All (IsReadFrom folder) layers) where
     pub sound : AreSoundLayers folder
     sound k damaged = read_soundly folder layers read k (subst (λ (ns : List ℕ). Contains ns k) (sym is) (stands_among k damaged)) damaged
 
-    module _ (loaded : AreLoaded layers) where
+    module _ (loaded : AreBaseLayers layers) where
       abbrev history : History
-      history = history_kept layers
+      history = history_of_bases layers
 
       found : (k : ℕ) (layer : LayerRecord) → get history k ≡ Some layer → Found layers k layer
-      found k layer e = found_in layers k layer (sym (get-from_entries nat_cmp_total (map loaded_entry layers) k) ∙ e)
+      found k layer e = found_in layers k layer (sym (get-from_entries nat_cmp_total (map entry_of layers) k) ∙ e)
 
       numbers_say : (k : ℕ) (layer : LayerRecord) → get history k ≡ Some layer → IsLayerNumber k × IsBase layer
       numbers_say k layer e =
           let at = found k layer e in
-          let one = All-contains IsLoaded layers at.0 loaded.each at.1 in
+          let one = All-contains IsBaseLayer layers at.0 loaded.each at.1 in
           let file = All-contains (IsReadFrom folder) layers at.0 read at.1 in
           (subst IsLayerNumber (sym at.2) one.number, subst IsBase at.3 (refl, refl, file.triples))
 
-      kept : (l : Loaded) → Contains layers l → get history l.number ≡ Some (base_record l.triples.items)
-      kept l (i, lt, at) = subst (λ (x : Loaded). get history x.number ≡ Some (base_record x.triples.items)) at (get-at layers i l loaded lt)
+      kept : (l : BaseLayer) → Contains layers l → get history l.number ≡ Some (base_record l.triples.items)
+      kept l (i, lt, at) = subst (λ (x : BaseLayer). get history x.number ≡ Some (base_record x.triples.items)) at (get-at layers i l loaded lt)
 
       no_file : (k : ℕ) → IsLayerNumber k → get history k ≡ None → get folder (layer_name k) ≡ None
       no_file k is_number none = elim (get folder (layer_name k)) as (λ o. get folder (layer_name k) ≡ o → o ≡ None) [

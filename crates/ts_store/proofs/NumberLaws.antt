@@ -13,8 +13,8 @@ use Rattle.std.proofs.lemmas.Map.Keys.{below_from_sorted, sorted_tail}
 use Rattle.std.proofs.lemmas.List.{map-append, length-map}
 use Rattle.std.proofs.lemmas.Option.{slice_get-get_or}
 use Rattle.std.specs.List.{slice_get}
-use Rattle.ts_store.specs.declared.loaded.Loaded.{Loaded}
-use Rattle.ts_store.specs.Loaded.{AreLoaded, IsLoaded, base_record, history_kept, loaded_entry}
+use Rattle.ts_store.specs.declared.base_layer.BaseLayer.{BaseLayer}
+use Rattle.ts_store.specs.BaseLayers.{AreBaseLayers, IsBaseLayer, base_record, history_of_bases, entry_of}
 use Rattle.ts_store.specs.Step.{greatest_of, next_number}
 
 both : (a b : Bool) → T a → T b → T (a && b)
@@ -44,15 +44,15 @@ module _ {X : Type 0} where
       let same : from_entries {R = nat_cmp} es ≡ from_sorted es = same_map nat_cmp_total nat_cmp-IsAntisymmetric _ _ (λ q. get-from_entries nat_cmp_total es q ∙ sym (get-from_sorted nat_cmp es q sorted)) in
       ap keys same ∙ ap keys_in (entries-from_sorted nat_cmp es sorted)
 
-abbrev pub numbers : List Loaded → List ℕ
+abbrev pub numbers : List BaseLayer → List ℕ
 numbers layers = map (λ loaded. loaded.number) layers
 
-keys_are : (layers : List Loaded) → keys_in (map loaded_entry layers) ≡ numbers layers
+keys_are : (layers : List BaseLayer) → keys_in (map entry_of layers) ≡ numbers layers
 keys_are [] = refl
 keys_are (l ∷ layers) = ap (λ ns. l.number ∷ ns) (keys_are layers)
 
-pub keys-kept : (layers : List Loaded) → AreLoaded layers → keys (history_kept layers) ≡ numbers layers
-keys-kept layers loaded = keys-from_entries (map loaded_entry layers) (subst (IsStrictlySortedBy nat_cmp) (sym (keys_are layers)) loaded.rise) ∙ keys_are layers
+pub keys-kept : (layers : List BaseLayer) → AreBaseLayers layers → keys (history_of_bases layers) ≡ numbers layers
+keys-kept layers loaded = keys-from_entries (map entry_of layers) (subst (IsStrictlySortedBy nat_cmp) (sym (keys_are layers)) loaded.rise) ∙ keys_are layers
 
 -- the greatest of rising numbers is the last
 greatest-last : (xs : List ℕ) → IsStrictlySortedBy nat_cmp xs → greatest_of xs ≡ get_or xs (length xs - 1) 0
@@ -64,20 +64,20 @@ greatest-last (x ∷ y ∷ ys) rise =
     let place : get_or (x ∷ y ∷ ys) (length (x ∷ y ∷ ys) - 1) 0 ≡ get_or (y ∷ ys) (length (y ∷ ys) - 1) 0 = ap (λ n. get_or (x ∷ y ∷ ys) n 0) (let e : length (x ∷ y ∷ ys) - 1 ≡ suc (length (y ∷ ys) - 1) = omega arith in e) in
     omega arith
 
-pub greatest-kept : (layers : List Loaded) → AreLoaded layers → greatest_of (keys (history_kept layers)) ≡ get_or (numbers layers) (length layers - 1) 0
+pub greatest-kept : (layers : List BaseLayer) → AreBaseLayers layers → greatest_of (keys (history_of_bases layers)) ≡ get_or (numbers layers) (length layers - 1) 0
 greatest-kept layers loaded =
     ap greatest_of (keys-kept layers loaded) ∙ greatest-last (numbers layers) loaded.rise
-    ∙ ap (λ n. get_or (numbers layers) (n - 1) 0) (length-map layers (λ (l : Loaded). l.number))
+    ∙ ap (λ n. get_or (numbers layers) (n - 1) 0) (length-map layers (λ (l : BaseLayer). l.number))
 
-number-at : (layers : List Loaded) (i : ℕ) (l : Loaded) → slice_get layers i ≡ Some l → get_or (numbers layers) i 0 ≡ l.number
+number-at : (layers : List BaseLayer) (i : ℕ) (l : BaseLayer) → slice_get layers i ≡ Some l → get_or (numbers layers) i 0 ≡ l.number
 number-at [] i l e = let none : ⊥ = cc in absurd none
-number-at (x ∷ xs) zero l e = let same : x ≡ l = cc in ap (λ (k : Loaded). k.number) same
+number-at (x ∷ xs) zero l e = let same : x ≡ l = cc in ap (λ (k : BaseLayer). k.number) same
 number-at (x ∷ xs) (suc i) l e = number-at xs i l e
 
-pub greatest-some : (layers : List Loaded) (l : Loaded) → AreLoaded layers → Some l ≡ slice_get layers (length layers - 1) → l.number ≡ greatest_of (keys (history_kept layers))
+pub greatest-some : (layers : List BaseLayer) (l : BaseLayer) → AreBaseLayers layers → Some l ≡ slice_get layers (length layers - 1) → l.number ≡ greatest_of (keys (history_of_bases layers))
 greatest-some layers l loaded e = sym (greatest-kept layers loaded ∙ number-at layers (length layers - 1) l (sym e))
 
-pub greatest-none : (layers : List Loaded) → AreLoaded layers → None ≡ slice_get layers (length layers - 1) → 0 ≡ greatest_of (keys (history_kept layers))
+pub greatest-none : (layers : List BaseLayer) → AreBaseLayers layers → None ≡ slice_get layers (length layers - 1) → 0 ≡ greatest_of (keys (history_of_bases layers))
 greatest-none [] loaded e = sym (greatest-kept [] loaded)
 greatest-none (x ∷ xs) loaded e =
     let some = slice_get-get_or (x ∷ xs) (length (x ∷ xs) - 1) x (omega arith) in
@@ -98,27 +98,27 @@ unfolding IsStrictlySortedBy
 rise-push [] n rise above = (tt, tt)
 rise-push (x ∷ xs) n rise above = (all-push (λ y. nat_cmp x y ≡ Less) xs n rise.0 (sym (nat_cmp_is x n Less above.0)), rise-push xs n rise.1 above.1)
 
-module _ (layers : List Loaded) (loaded : Loaded) (are : AreLoaded layers) (number : loaded.number ≡ next_number (history_kept layers)) where
+module _ (layers : List BaseLayer) (loaded : BaseLayer) (are : AreBaseLayers layers) (number : loaded.number ≡ next_number (history_of_bases layers)) where
   above : AllByRecursion (λ x. x < loaded.number) (numbers layers)
   above = greatest-above (numbers layers) loaded.number (let e = ap greatest_of (keys-kept layers are) in omega arith)
 
-  pub AreLoaded-push : IsLoaded loaded → AreLoaded (layers ++ loaded ∷ [])
-  AreLoaded-push is = record {
-    rise = subst (IsStrictlySortedBy nat_cmp) (sym (map-append (λ (l : Loaded). l.number) layers (loaded ∷ []))) (rise-push (numbers layers) loaded.number are.rise above);
-    each = All-push IsLoaded layers loaded are.each is;
+  pub AreBaseLayers-push : IsBaseLayer loaded → AreBaseLayers (layers ++ loaded ∷ [])
+  AreBaseLayers-push is = record {
+    rise = subst (IsStrictlySortedBy nat_cmp) (sym (map-append (λ (l : BaseLayer). l.number) layers (loaded ∷ []))) (rise-push (numbers layers) loaded.number are.rise above);
+    each = All-push IsBaseLayer layers loaded are.each is;
   }
 
-  find-above : (ls : List Loaded) → AllByRecursion (λ x. x < loaded.number) (numbers ls) → find nat_cmp loaded.number (map loaded_entry ls) ≡ None
+  find-above : (ls : List BaseLayer) → AllByRecursion (λ x. x < loaded.number) (numbers ls) → find nat_cmp loaded.number (map entry_of ls) ≡ None
   find-above [] a = refl
   find-above (l ∷ ls) a =
       let apart : eq_by_cmp nat_cmp loaded.number l.number ≡ false = ap is_eq (sym (nat_cmp_is loaded.number l.number Greater a.0)) in
-      ap (λ b. cond b (Some (base_record l.triples.items)) (find nat_cmp loaded.number (map loaded_entry ls))) apart ∙ find-above ls a.1
+      ap (λ b. cond b (Some (base_record l.triples.items)) (find nat_cmp loaded.number (map entry_of ls))) apart ∙ find-above ls a.1
 
   -- the number is a new one
-  pub get-next : get (history_kept layers) loaded.number ≡ None
-  get-next = get-from_entries nat_cmp_total (map loaded_entry layers) loaded.number ∙ find-above layers above
+  pub get-next : get (history_of_bases layers) loaded.number ≡ None
+  get-next = get-from_entries nat_cmp_total (map entry_of layers) loaded.number ∙ find-above layers above
 
-  pub history_kept-push : history_kept (layers ++ loaded ∷ []) ≡ insert (history_kept layers) loaded.number (base_record loaded.triples.items)
-  history_kept-push =
-      ap from_entries (map-append loaded_entry layers (loaded ∷ []))
-      ∙ from_entries_push nat_cmp_total nat_cmp-IsAntisymmetric (map loaded_entry layers) loaded.number (base_record loaded.triples.items) (find-above layers above)
+  pub history_of_bases-push : history_of_bases (layers ++ loaded ∷ []) ≡ insert (history_of_bases layers) loaded.number (base_record loaded.triples.items)
+  history_of_bases-push =
+      ap from_entries (map-append entry_of layers (loaded ∷ []))
+      ∙ from_entries_push nat_cmp_total nat_cmp-IsAntisymmetric (map entry_of layers) loaded.number (base_record loaded.triples.items) (find-above layers above)

@@ -19,11 +19,11 @@ use Rattle.ts_plain.proofs.HeadLaws.{head_once}
 use Rattle.ts_plain.proofs.RuleLaws.{KeepsPlainRules-base}
 use Rattle.ts_replace.specs.Names.{IsLayerNumber, layer_name}
 use Rattle.ts_site.specs.Folder.{Folder}
-use Rattle.ts_store.specs.declared.loaded.Loaded.{Loaded}
+use Rattle.ts_store.specs.declared.base_layer.BaseLayer.{BaseLayer}
 use Rattle.ts_store.specs.declared.stop.Stop.{Stop}
 use Rattle.ts_store.specs.declared.stop.Stop.TheVariants.{Damaged, Memory}
-use Rattle.ts_store.specs.Doing.{IsReadFrom, IsFirstOf}
-use Rattle.ts_store.specs.Loaded.{AreLoaded, IsLoaded, base_record}
+use Rattle.ts_store.specs.StepParts.{IsReadFrom, IsFirstOf}
+use Rattle.ts_store.specs.BaseLayers.{AreBaseLayers, IsBaseLayer, base_record}
 use Rattle.ts_model.proofs.TripleSets.{members-empty}
 use Rattle.ts_store.specs.Files.{file_of}
 use Rattle.ts_store.specs.FolderSays.{IsBaseFile, IsDamagedLayer}
@@ -60,11 +60,11 @@ module _ (folder : Folder) where
     | Some file ↦ λ h. refl
   ] stands
 
-  abbrev pub Reads : Result Loaded Stop → ℕ → List ℕ → Type 0
+  abbrev pub Reads : Result BaseLayer Stop → ℕ → List ℕ → Type 0
   Reads result number bytes =
       IfOk result (λ loaded. (bytes ≡ file_of number (base_record loaded.triples.items)) × All IsTriple (members (from_list {R = triple_cmp} loaded.triples.items)))
 
-  abbrev pub Fails : Result Loaded Stop → ℕ → List ℕ → Type 0
+  abbrev pub Fails : Result BaseLayer Stop → ℕ → List ℕ → Type 0
   Fails result number bytes = IfErr result (λ stop. (stop ≡ Memory) ⊎ ((stop ≡ Damaged (layer_name number)) × (IsBaseFile number bytes → ⊥)))
 
   module _ (number : ℕ) (name bytes shown : List ℕ) (named : name ≡ layer_name number) (stands : IsTrue (contains_key folder (layer_name number))) (is_number : IsLayerNumber number)
@@ -72,14 +72,14 @@ module _ (folder : Folder) where
     file_is : get folder (layer_name number) ≡ Some shown
     file_is = stands_with (layer_name number) stands ∙ ap Some (ap (λ n. unwrap_or (get folder n) []) (sym named) ∙ sym read ∙ sym lent)
 
-    pub read_ok : (result : Result Loaded Stop) → IfOk result (λ loaded. (loaded.number ≡ number) × IsLoaded loaded) → Reads result number shown → IfOk result (IsReadFrom folder)
+    pub read_ok : (result : Result BaseLayer Stop) → IfOk result (λ loaded. (loaded.number ≡ number) × IsBaseLayer loaded) → Reads result number shown → IfOk result (IsReadFrom folder)
     read_ok (Err stop) loaded reads = tt
     read_ok (Ok loaded) given reads = record {
       file = ap (λ n. get folder (layer_name n)) given.0 ∙ file_is ∙ ap Some reads.0 ∙ ap (λ n. Some (file_of n (base_record loaded.triples.items))) (sym given.0);
       triples = reads.1;
     }
 
-    pub read_err : (result : Result Loaded Stop) → Fails result number shown
+    pub read_err : (result : Result BaseLayer Stop) → Fails result number shown
         → IfErr result (λ stop. (other : List ℕ) → stop ≡ Damaged other → IsDamagedLayer folder number × (other ≡ layer_name number))
     read_err (Ok loaded) fails = tt
     read_err (Err stop) (inl memory) = λ other e. let none : ⊥ = cc in absurd none
@@ -87,13 +87,13 @@ module _ (folder : Folder) where
         let same : other ≡ layer_name number = cc in
         ((is_number, (shown, file_is, none)), same)
 
-  base_is : (loaded : Loaded) → IsLayerNumber loaded.number → IsReadFrom folder loaded → IsBaseFile loaded.number (file_of loaded.number (base_record loaded.triples.items))
+  base_is : (loaded : BaseLayer) → IsLayerNumber loaded.number → IsReadFrom folder loaded → IsBaseFile loaded.number (file_of loaded.number (base_record loaded.triples.items))
   base_is loaded is read =
       let set = from_list {R = triple_cmp} loaded.triples.items in
       (members set, (KeepsPlainRules-base loaded.number set is.0, read.triples, (λ k d below. absurd (omega arith))), ap (plain_file loaded.number None (members set)) members-empty)
 
   -- a layer that was read is not damaged
-  pub read_is_sound : (loaded : Loaded) → IsReadFrom folder loaded → IsDamagedLayer folder loaded.number → ⊥
+  pub read_is_sound : (loaded : BaseLayer) → IsReadFrom folder loaded → IsDamagedLayer folder loaded.number → ⊥
   read_is_sound loaded read (is, (file, stands, none)) =
       let both : Some file ≡ Some (file_of loaded.number (base_record loaded.triples.items)) = sym stands ∙ read.file in
       let same : file ≡ file_of loaded.number (base_record loaded.triples.items) = cc in
@@ -104,27 +104,27 @@ module _ (folder : Folder) where
   get_or-default (x ∷ xs) zero d e below = refl
   get_or-default (x ∷ xs) (suc i) d e below = get_or-default xs i d e (omega arith)
 
-  module _ (layers : List Loaded) (read : All (IsReadFrom folder) layers) where
+  module _ (layers : List BaseLayer) (read : All (IsReadFrom folder) layers) where
     -- the layer under a number that was read
-    layer_of : (ls : List Loaded) (i : ℕ) → i < length ls → (loaded : Loaded) × (get_or ls i loaded ≡ loaded)
+    layer_of : (ls : List BaseLayer) (i : ℕ) → i < length ls → (loaded : BaseLayer) × (get_or ls i loaded ≡ loaded)
     layer_of [] i below = absurd (omega arith)
     layer_of (l ∷ ls) zero below = (l, refl)
     layer_of (l ∷ ls) (suc i) below = layer_of ls i (omega arith)
 
-    pub read_at : (k : ℕ) → Contains (map (λ (l : Loaded). l.number) layers) k → (loaded : Loaded) × Contains layers loaded × (loaded.number ≡ k)
+    pub read_at : (k : ℕ) → Contains (map (λ (l : BaseLayer). l.number) layers) k → (loaded : BaseLayer) × Contains layers loaded × (loaded.number ≡ k)
     read_at k (i, below, is) =
-        let same : length (map (λ (l : Loaded). l.number) layers) ≡ length layers = length-map layers (λ (l : Loaded). l.number) in
+        let same : length (map (λ (l : BaseLayer). l.number) layers) ≡ length layers = length-map layers (λ (l : BaseLayer). l.number) in
         let at = layer_of layers i (omega arith) in
-        (at.0, (i, omega arith, at.1), ap (λ (l : Loaded). l.number) (sym at.1) ∙ sym (get_or-map (λ (l : Loaded). l.number) layers i at.0 k (omega arith)) ∙ is)
+        (at.0, (i, omega arith, at.1), ap (λ (l : BaseLayer). l.number) (sym at.1) ∙ sym (get_or-map (λ (l : BaseLayer). l.number) layers i at.0 k (omega arith)) ∙ is)
 
-    pub read_soundly : (k : ℕ) → Contains (map (λ (l : Loaded). l.number) layers) k → IsDamagedLayer folder k → ⊥
+    pub read_soundly : (k : ℕ) → Contains (map (λ (l : BaseLayer). l.number) layers) k → IsDamagedLayer folder k → ⊥
     read_soundly k among damaged =
         let at = read_at k among in
         read_is_sound at.0 (All-contains (IsReadFrom folder) layers at.0 read at.1) (subst (IsDamagedLayer folder) (sym at.2) damaged)
 
     -- the next number is the first of a damaged layer
     pub first_of : (numbers : List ℕ) (i : ℕ) (name : List ℕ) (number : ℕ) → IsStrictlyIncreasing numbers → i < length numbers → number ≡ get_or numbers i number
-        → map (λ (l : Loaded). l.number) layers ≡ take i numbers → IsDamagedLayer folder number → name ≡ layer_name number → IsFirstOf folder numbers name
+        → map (λ (l : BaseLayer). l.number) layers ≡ take i numbers → IsDamagedLayer folder number → name ≡ layer_name number → IsFirstOf folder numbers name
     first_of numbers i name number rise below is so_far damaged named = record {
       number = number;
       stands = (i, below, sym is);
@@ -144,12 +144,12 @@ module _ (folder : Folder) where
     }
 
 -- one number more
-pub more_numbers : (layers : List Loaded) (numbers : List ℕ) (i : ℕ) (loaded : Loaded) (after : List Loaded) → i < length numbers → loaded.number ≡ get_or numbers i 0
-    → map (λ (l : Loaded). l.number) layers ≡ take i numbers → after ≡ layers ++ loaded ∷ [] → map (λ (l : Loaded). l.number) after ≡ take (i + 1) numbers
+pub more_numbers : (layers : List BaseLayer) (numbers : List ℕ) (i : ℕ) (loaded : BaseLayer) (after : List BaseLayer) → i < length numbers → loaded.number ≡ get_or numbers i 0
+    → map (λ (l : BaseLayer). l.number) layers ≡ take i numbers → after ≡ layers ++ loaded ∷ [] → map (λ (l : BaseLayer). l.number) after ≡ take (i + 1) numbers
 more_numbers layers numbers i loaded after below is so_far pushed =
-    ap (map (λ (l : Loaded). l.number)) pushed ∙ map-append (λ (l : Loaded). l.number) layers (loaded ∷ [])
+    ap (map (λ (l : BaseLayer). l.number)) pushed ∙ map-append (λ (l : BaseLayer). l.number) layers (loaded ∷ [])
     ∙ (λ j. so_far j ++ is j ∷ []) ∙ sym (take_more numbers i 0 below)
 
 -- layers with numbers that rise
-pub are_loaded : (layers : List Loaded) (numbers : List ℕ) → IsStrictlyIncreasing numbers → map (λ (l : Loaded). l.number) layers ≡ numbers → All IsLoaded layers → AreLoaded layers
+pub are_loaded : (layers : List BaseLayer) (numbers : List ℕ) → IsStrictlyIncreasing numbers → map (λ (l : BaseLayer). l.number) layers ≡ numbers → All IsBaseLayer layers → AreBaseLayers layers
 are_loaded layers numbers rise is each = record { rise = subst (IsStrictlySortedBy nat_cmp) (sym is) (sorted_from_strictly_increasing numbers rise); each = each }

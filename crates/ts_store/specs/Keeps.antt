@@ -2,7 +2,7 @@
 use Rattle.std.specs.Prelude.{◌≡◌, Option, None}
 use Rattle.ts_store.specs.declared.session.Session.{Session}
 use Rattle.ts_store.specs.declared.stop.Stop.{Stop}
-use Rattle.ts_store.specs.Doing.{state_of}
+use Rattle.ts_store.specs.StepParts.{state_of}
 use Rattle.ts_store.specs.State.{State}
 
 -- the stop that ended it

@@ -1,13 +1,13 @@
 pub mod AfterBase
-pub mod Doing
+pub mod BaseLayer
 pub mod Files
 pub mod FolderSays
 pub mod Keeps
 pub mod Leaves
-pub mod Loaded
 pub mod Memory
 pub mod Stands
 pub mod State
 pub mod Step
+pub mod StepParts
 pub mod Steps
 pub mod Stops

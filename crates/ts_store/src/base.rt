@@ -8,11 +8,11 @@ ghost use Rattle.ts_model.specs.Order.{triple_cmp};
 ghost use Rattle.ts_model.specs.Sets.{from_list, members};
 ghost use Rattle.ts_plain.specs.PlainFile.{plain_file};
 ghost use Rattle.ts_replace.specs.Names.{IsLayerNumber};
-ghost use Rattle.ts_store.specs.Doing.{IsBaseOf, IsMade};
-ghost use Rattle.ts_store.specs.Loaded.{AreLoaded, IsLoaded, history_kept};
+ghost use Rattle.ts_store.specs.StepParts.{IsBaseOf, IsNewBase};
+ghost use Rattle.ts_store.specs.BaseLayers.{AreBaseLayers, IsBaseLayer, history_of_bases};
 ghost use Rattle.ts_store.specs.Step.{are_counted, greatest_of, is_numbered, next_number};
 
-use crate::loaded::{Loaded, load};
+use crate::base_layer::{BaseLayer, base_layer_of};
 use std::alloc::{AllocError, Global};
 use ts_model::{SignedTriple, Totals, Triple, net_additions, totals_of};
 use ts_plain::{PlainLayer, write_plain};
@@ -22,8 +22,8 @@ const GREATEST: u64 = 4_294_967_295;
 
 /// A new base layer, and its file.
 #[derive(Drop)]
-pub(crate) struct Made {
-    pub loaded: Loaded,
+pub(crate) struct NewBase {
+    pub loaded: BaseLayer,
     pub file: Vec<u8>,
 }
 
@@ -31,14 +31,14 @@ pub(crate) struct Made {
 /// memory.
 pub(crate) fn make(
     alloc: Global,
-    layers: &[Loaded],
+    layers: &[BaseLayer],
     body: &[SignedTriple],
-) -> Result<Option<Made>, AllocError>
-    requires { AreLoaded layers.now }
+) -> Result<Option<NewBase>, AllocError>
+    requires { AreBaseLayers layers.now }
     ensures made { IfOk result (λ made. MatchOption made
-        (is_numbered (history_kept layers.now) (members (net_additions empty body.now)) ≡ false)
-        (λ made. IsMade (history_kept layers.now) body.now made.loaded made.file.items)) }
-    ensures full { 2 ^ 32 ≤ next_number (history_kept layers.now) → IfErr result (λ _. ⊥) }
+        (is_numbered (history_of_bases layers.now) (members (net_additions empty body.now)) ≡ false)
+        (λ made. IsNewBase (history_of_bases layers.now) body.now made.loaded made.file.items)) }
+    ensures full { 2 ^ 32 ≤ next_number (history_of_bases layers.now) → IfErr result (λ _. ⊥) }
 {
     match next(layers) {
         None => Ok(None),
@@ -51,7 +51,7 @@ fn make_numbered(
     alloc: Global,
     number: u32,
     body: &[SignedTriple],
-) -> Result<Option<Made>, AllocError>
+) -> Result<Option<NewBase>, AllocError>
     requires { IsLayerNumber number }
     ensures { IfOk result (λ made. MatchOption made
         (are_counted (members (net_additions empty body.now)) ≡ false)
@@ -62,7 +62,7 @@ fn make_numbered(
     if !have_numbers(totals) {
         return Ok(None);
     }
-    Ok(Some(lay(alloc, number, additions)?))
+    Ok(Some(build_base(alloc, number, additions)?))
 }
 
 /// Whether so many terms and predicates have numbers.
@@ -73,9 +73,9 @@ fn have_numbers(totals: Totals) -> bool
 }
 
 /// The number of the next layer, if one is left.
-fn next(layers: &[Loaded]) -> Option<u32>
-    requires { AreLoaded layers.now }
-    ensures { MatchOption result (2 ^ 32 ≤ next_number (history_kept layers.now)) (λ number. (number ≡ next_number (history_kept layers.now)) × IsLayerNumber number) }
+fn next(layers: &[BaseLayer]) -> Option<u32>
+    requires { AreBaseLayers layers.now }
+    ensures { MatchOption result (2 ^ 32 ≤ next_number (history_of_bases layers.now)) (λ number. (number ≡ next_number (history_of_bases layers.now)) × IsLayerNumber number) }
 {
     match greatest(layers) {
         u32::MAX => None,
@@ -84,9 +84,9 @@ fn next(layers: &[Loaded]) -> Option<u32>
 }
 
 /// The greatest number of a layer, 0 where there is none.
-fn greatest(layers: &[Loaded]) -> u32
-    requires { AreLoaded layers.now }
-    ensures { result ≡ greatest_of (keys (history_kept layers.now)) }
+fn greatest(layers: &[BaseLayer]) -> u32
+    requires { AreBaseLayers layers.now }
+    ensures { result ≡ greatest_of (keys (history_of_bases layers.now)) }
 {
     match layers.last() {
         Some(layer) => layer.number,
@@ -95,10 +95,10 @@ fn greatest(layers: &[Loaded]) -> u32
 }
 
 /// The layer of these additions, and its file.
-fn lay(alloc: Global, number: u32, additions: Vec<Triple>) -> Result<Made, AllocError>
+fn build_base(alloc: Global, number: u32, additions: Vec<Triple>) -> Result<NewBase, AllocError>
     requires number { IsLayerNumber number }
     requires rise { IsStrictlySortedBy triple_cmp additions.items }
-    ensures { IfOk result (λ made. (made.loaded.number ≡ number) × IsLoaded made.loaded × All IsTriple additions.items
+    ensures { IfOk result (λ made. (made.loaded.number ≡ number) × IsBaseLayer made.loaded × All IsTriple additions.items
         × (from_list {R = triple_cmp} made.loaded.triples.items ≡ from_list additions.items)
         × (made.file.items ≡ plain_file number None additions.items [])) }
 {
@@ -110,8 +110,8 @@ fn lay(alloc: Global, number: u32, additions: Vec<Triple>) -> Result<Made, Alloc
         removals: Vec::new(alloc),
     };
     let file = write_plain(alloc, &layer)?;
-    let loaded = load(number, layer.additions);
-    Ok(Made { loaded, file })
+    let loaded = base_layer_of(number, layer.additions);
+    Ok(NewBase { loaded, file })
 }
 
 /// Shows that triples are of terms.

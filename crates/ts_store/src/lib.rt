@@ -13,16 +13,16 @@ pub use session::Session;
 pub use stop::{Kind, Stop};
 
 mod answer;
-mod ask;
+mod queries;
 mod base;
-mod doing;
+mod dispatch;
 mod find;
 mod law;
 mod listing;
-mod loaded;
+mod base_layer;
 mod open;
 mod order;
-mod place;
+mod publish;
 mod session;
 mod stop;
 #[cfg(test)]

@@ -1,11 +1,11 @@
 // Listing triples.
-ghost use Rattle.std.specs.Prelude.{◌≡◌, ◌++◌, [], IfOk, IfErr, filter, flat_map, length, IsTrue};
+ghost use Rattle.std.specs.Prelude.{◌≡◌, ◌++◌, [], IfOk, IfErr, filter, flat_map, length, IsTrue, ◌<◌, OnOk};
 ghost use Rattle.ts_model.specs.Fits.{fits};
 ghost use Rattle.ts_nt.specs.TripleLine.{triple_line};
 ghost use Rattle.ts_script.specs.Replies.{reply_text};
 ghost use Rattle.ts_site.specs.Faults.{is_err_and};
 ghost use Rattle.ts_site.specs.Outside.{OnlySays};
-ghost use Rattle.ts_store.specs.Doing.{IsAskingStop, SaysSoFar};
+ghost use Rattle.ts_store.specs.StepParts.{IsQueryStop, SaysSoFar};
 ghost use Rattle.ts_store.specs.Step.{listing_text};
 ghost use Rattle.ts_store.specs.Leaves.{AreLines, LeavesTold};
 ghost use Rattle.ts_store.specs.Stops.{is_output_fault};
@@ -30,7 +30,7 @@ pub(crate) fn list<W: Site>(
     ensures kind { IfOk result (λ kind. kind ≡ Kind.Done) }
     ensures told { IsTrue (W.outside site.old).tells_output
         → LeavesTold result (listing_text (filter (fits pattern.now) triples.now)) (W.outside site.old).told (W.outside site.new).told }
-    ensures why { IfErr result IsAskingStop }
+    ensures why { IfErr result IsQueryStop }
     ensures says { OnlySays (is_err_and is_output_fault result) (W.outside site.old) (W.outside site.new) }
 {
     let mut piece = Vec::new(alloc);
@@ -45,7 +45,7 @@ fn end<W: Site>(site: &mut W, piece: &mut Vec<u8>, count: usize) -> Result<Kind,
     ensures kind { IfOk result (λ kind. kind ≡ Kind.Done) }
     ensures told { IsTrue (W.outside site.old).tells_output
         → LeavesTold result (piece.old.items ++ reply_text (Reply.Total count)) (W.outside site.old).told (W.outside site.new).told }
-    ensures why { IfErr result IsAskingStop }
+    ensures why { IfErr result IsQueryStop }
     ensures says { OnlySays (is_err_and is_output_fault result) (W.outside site.old) (W.outside site.new) }
 {
     let line = reply_line(&Reply::Total(count as u128));
@@ -69,7 +69,7 @@ fn lines<W: Site>(
     ensures count { IfOk result (λ count. count ≡ length (filter (fits pattern.now) triples.now)) }
     ensures told { IsTrue (W.outside site.old).tells_output
         → SaysSoFar result (flat_map triple_line (filter (fits pattern.now) triples.now)) (W.outside site.old).told (W.outside site.new).told piece.new.items }
-    ensures why { IfErr result IsAskingStop }
+    ensures why { IfErr result IsQueryStop }
     ensures says { OnlySays (is_err_and is_output_fault result) (W.outside site.old) (W.outside site.new) }
 {
     let mut count = 0;
@@ -88,7 +88,7 @@ fn lines<W: Site>(
 fn line<W: Site>(site: &mut W, triple: &Triple, piece: &mut Vec<u8>) -> Result<(), Stop>
     ensures told { IsTrue (W.outside site.old).tells_output
         → SaysSoFar result (piece.old.items ++ triple_line triple.now) (W.outside site.old).told (W.outside site.new).told piece.new.items }
-    ensures why { IfErr result IsAskingStop }
+    ensures why { IfErr result IsQueryStop }
     ensures says { OnlySays (is_err_and is_output_fault result) (W.outside site.old) (W.outside site.new) }
 {
     match write_triple(triple, piece) {
@@ -100,9 +100,10 @@ fn line<W: Site>(site: &mut W, triple: &Triple, piece: &mut Vec<u8>) -> Result<(
 /// Says the piece, which is lines, if it is long enough, and then starts it anew.
 fn say_long<W: Site>(site: &mut W, piece: &mut Vec<u8>) -> Result<(), Stop>
     requires { AreLines piece.old.items }
+    ensures small { OnOk result (length piece.new.items < 65536) }
     ensures told { IsTrue (W.outside site.old).tells_output
         → SaysSoFar result piece.old.items (W.outside site.old).told (W.outside site.new).told piece.new.items }
-    ensures why { IfErr result IsAskingStop }
+    ensures why { IfErr result IsQueryStop }
     ensures says { OnlySays (is_err_and is_output_fault result) (W.outside site.old) (W.outside site.new) }
 {
     if piece.len() < PIECE {

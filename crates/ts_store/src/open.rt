@@ -9,23 +9,23 @@ ghost use Rattle.ts_replace.specs.Names.{IsLayerNumber, label_file_name, layer_n
 ghost use Rattle.ts_replace.specs.Scanned.{AreThoseOf, Rise};
 ghost use Rattle.ts_site.specs.Faults.{is_err_and};
 ghost use Rattle.ts_site.specs.Outside.{OnlyReads};
-ghost use Rattle.ts_store.specs.Doing.{IsFirstOf, IsOtherStop, IsReadFrom};
-ghost use Rattle.ts_store.specs.Loaded.{AreLoaded, IsLoaded, base_record, history_kept};
+ghost use Rattle.ts_store.specs.StepParts.{IsFirstOf, IsOtherStop, IsReadFrom};
+ghost use Rattle.ts_store.specs.BaseLayers.{AreBaseLayers, IsBaseLayer, base_record, history_of_bases};
 ghost use Rattle.ts_store.specs.Files.{AreFilesOf, file_of};
 ghost use Rattle.ts_store.specs.FolderSays.{IsBaseFile, IsDamagedLayer, IsFirstDamaged};
 ghost use Rattle.ts_store.specs.Stops.{IsOpeningStop, is_disk_fault};
 
 use crate::Stop;
-use crate::loaded::{Loaded, load};
+use crate::base_layer::{BaseLayer, base_layer_of};
 use std::alloc::Global;
 use ts_plain::{PlainError, read_plain};
 use ts_replace::{Folder, ScanFail, label_file, layer_file, read_file, rollup_file};
 use ts_site::{Disk, Site};
 
 /// Settles what reads, and reads every layer file of the folder.
-pub(crate) fn read_folder<W: Site>(alloc: Global, site: &mut W) -> Result<Vec<Loaded>, Stop>
-    ensures loaded { IfOk result (λ layers. AreLoaded layers.items) }
-    ensures says { IsTrue (W.outside site.old).tells_folder → IfOk result (λ layers. AreFilesOf (W.outside site.old).folder (history_kept layers.items)) }
+pub(crate) fn read_folder<W: Site>(alloc: Global, site: &mut W) -> Result<Vec<BaseLayer>, Stop>
+    ensures loaded { IfOk result (λ layers. AreBaseLayers layers.items) }
+    ensures says { IsTrue (W.outside site.old).tells_folder → IfOk result (λ layers. AreFilesOf (W.outside site.old).folder (history_of_bases layers.items)) }
     ensures damaged { IsTrue (W.outside site.old).tells_folder → IfErr result (λ stop. (name : List ℕ) → stop ≡ Stop.Damaged name → IsFirstDamaged (W.outside site.old).folder name) }
     ensures why { IfErr result IsOpeningStop }
     ensures reads { OnlyReads (is_err_and is_disk_fault result) (W.outside site.old) (W.outside site.new) }
@@ -41,12 +41,12 @@ pub(crate) fn read_folder<W: Site>(alloc: Global, site: &mut W) -> Result<Vec<Lo
 }
 
 /// Reads what a scan found.
-fn read_found<W: Site>(alloc: Global, site: &mut W, found: &Folder) -> Result<Vec<Loaded>, Stop>
+fn read_found<W: Site>(alloc: Global, site: &mut W, found: &Folder) -> Result<Vec<BaseLayer>, Stop>
     requires rise { Rise found.now.layers.items found.now.rollups.items found.now.labels.items }
     requires numbers { All IsLayerNumber found.now.layers.items }
     requires those { IsTrue (W.outside site.old).tells_folder → AreThoseOf (W.outside site.old).folder found.now.layers.items found.now.rollups.items found.now.labels.items }
-    ensures loaded { IfOk result (λ layers. AreLoaded layers.items) }
-    ensures says { IsTrue (W.outside site.old).tells_folder → IfOk result (λ layers. AreFilesOf (W.outside site.old).folder (history_kept layers.items)) }
+    ensures loaded { IfOk result (λ layers. AreBaseLayers layers.items) }
+    ensures says { IsTrue (W.outside site.old).tells_folder → IfOk result (λ layers. AreFilesOf (W.outside site.old).folder (history_of_bases layers.items)) }
     ensures damaged { IsTrue (W.outside site.old).tells_folder → IfErr result (λ stop. (name : List ℕ) → stop ≡ Stop.Damaged name → IsFirstDamaged (W.outside site.old).folder name) }
     ensures why { IfErr result IsOpeningStop }
     ensures reads { OnlyReads (is_err_and is_disk_fault result) (W.outside site.old) (W.outside site.new) }
@@ -75,12 +75,12 @@ fn no_others(found: &Folder) -> Result<(), Stop>
 }
 
 /// Reads the layers of these numbers, which rise.
-fn read_layers<W: Site>(alloc: Global, site: &mut W, numbers: &[u32]) -> Result<Vec<Loaded>, Stop>
+fn read_layers<W: Site>(alloc: Global, site: &mut W, numbers: &[u32]) -> Result<Vec<BaseLayer>, Stop>
     requires rise { IsStrictlyIncreasing numbers.now }
     requires numbers { All IsLayerNumber numbers.now }
     requires stand { IsTrue (W.outside site.old).tells_folder → All (λ n. IsTrue (contains_key (W.outside site.old).folder (layer_name n))) numbers.now }
     ensures numbers { IfOk result (λ layers. map (λ loaded. loaded.number) layers.items ≡ numbers.now) }
-    ensures loaded { IfOk result (λ layers. AreLoaded layers.items) }
+    ensures loaded { IfOk result (λ layers. AreBaseLayers layers.items) }
     ensures says { IsTrue (W.outside site.old).tells_folder → IfOk result (λ layers. All (IsReadFrom (W.outside site.old).folder) layers.items) }
     ensures damaged { IsTrue (W.outside site.old).tells_folder → IfErr result (λ stop. (name : List ℕ) → stop ≡ Stop.Damaged name → IsFirstOf (W.outside site.old).folder numbers.now name) }
     ensures why { IfErr result IsOpeningStop }
@@ -100,10 +100,10 @@ fn read_layers<W: Site>(alloc: Global, site: &mut W, numbers: &[u32]) -> Result<
 }
 
 /// Reads the layer of a number.
-fn read_layer<W: Site>(alloc: Global, site: &mut W, number: u32) -> Result<Loaded, Stop>
+fn read_layer<W: Site>(alloc: Global, site: &mut W, number: u32) -> Result<BaseLayer, Stop>
     requires number { IsLayerNumber number }
     requires stands { IsTrue (W.outside site.old).tells_folder → IsTrue (contains_key (W.outside site.old).folder (layer_name number)) }
-    ensures loaded { IfOk result (λ loaded. (loaded.number ≡ number) × IsLoaded loaded) }
+    ensures loaded { IfOk result (λ loaded. (loaded.number ≡ number) × IsBaseLayer loaded) }
     ensures says { IsTrue (W.outside site.old).tells_folder → IfOk result (IsReadFrom (W.outside site.old).folder) }
     ensures damaged { IsTrue (W.outside site.old).tells_folder → IfErr result (λ stop. (name : List ℕ) → stop ≡ Stop.Damaged name → IsDamagedLayer (W.outside site.old).folder number × (name ≡ layer_name number)) }
     ensures why { IfErr result IsOpeningStop }
@@ -117,9 +117,9 @@ fn read_layer<W: Site>(alloc: Global, site: &mut W, number: u32) -> Result<Loade
 }
 
 /// The layer of a number whose file the bytes are.
-fn load_file(alloc: Global, bytes: &[u8], number: u32) -> Result<Loaded, Stop>
+fn load_file(alloc: Global, bytes: &[u8], number: u32) -> Result<BaseLayer, Stop>
     requires { IsLayerNumber number }
-    ensures loaded { IfOk result (λ loaded. (loaded.number ≡ number) × IsLoaded loaded) }
+    ensures loaded { IfOk result (λ loaded. (loaded.number ≡ number) × IsBaseLayer loaded) }
     ensures file { IfOk result (λ loaded. (bytes.now ≡ file_of number (base_record loaded.triples.items)) × All IsTriple (members (from_list {R = triple_cmp} loaded.triples.items))) }
     ensures err { IfErr result (λ stop. (stop ≡ Stop.Memory) ⊎ ((stop ≡ Stop.Damaged (layer_name number)) × (IsBaseFile number bytes.now → ⊥))) }
 {
@@ -128,7 +128,7 @@ fn load_file(alloc: Global, bytes: &[u8], number: u32) -> Result<Loaded, Stop>
         Err(PlainError::NotPlain) => Err(Stop::Damaged(layer_file(number))),
         Ok(layer) => match layer.parent {
             Some(_) => Err(Stop::Damaged(layer_file(number))),
-            None => Ok(load(number, layer.additions)),
+            None => Ok(base_layer_of(number, layer.additions)),
         },
     }
 }

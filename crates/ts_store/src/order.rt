@@ -4,7 +4,7 @@ ghost use Rattle.std.specs.List.{list_any};
 ghost use Rattle.std.specs.List.Sorted.{IsPermutation, IsSorted, IsStrictlySortedBy};
 ghost use Rattle.std.specs.Ordering.{eq_by_cmp};
 ghost use Rattle.ts_model.specs.Order.{triple_cmp};
-ghost use Rattle.ts_store.specs.Loaded.{base_cmp, base_key_cmp};
+ghost use Rattle.ts_store.specs.BaseLayers.{base_cmp, base_key_cmp};
 
 use std::cmp::Ordering;
 use ts_model::{Term, Triple};

@@ -4,11 +4,11 @@ ghost use Rattle.ts_site.specs.Faults.{CountsFault, is_err_and};
 ghost use Rattle.ts_site.specs.Outside.{OnlyReads};
 ghost use Rattle.std.proofs.Props.{props};
 ghost use Rattle.std.specs.List.Sorted.{IsStrictlySortedBy-prop};
-ghost use Rattle.ts_store.specs.Doing.{IsNewest};
-ghost use Rattle.ts_store.specs.Loaded.{AreLoaded};
+ghost use Rattle.ts_store.specs.StepParts.{IsNewest};
+ghost use Rattle.ts_store.specs.BaseLayers.{AreBaseLayers};
 
-use crate::doing::do_command;
-use crate::loaded::Loaded;
+use crate::dispatch::dispatch;
+use crate::base_layer::BaseLayer;
 use crate::open::read_folder;
 use crate::stop::stop_of;
 use crate::{Kind, Stop};
@@ -21,10 +21,10 @@ use ts_site::{Disk, Site};
 #[derive(Drop)]
 pub struct Session {
     alloc: Global,
-    layers: Vec<Loaded>,
+    layers: Vec<BaseLayer>,
     last: Option<u32>,
     spent: Option<Stop>,
-    ghost loaded: { AreLoaded layers.items } by { Prim.hlevel (props, IsStrictlySortedBy-prop) },
+    ghost loaded: { AreBaseLayers layers.items } by { Prim.hlevel (props, IsStrictlySortedBy-prop) },
     ghost newest: { IsNewest layers.items last } by { Prim.hlevel props },
 }
 
@@ -93,7 +93,7 @@ impl Session {
         if let Some(stop) = &self.spent {
             return Err(stop.copy());
         }
-        let done = do_command(self.alloc, &mut self.layers, &mut self.last, site, command);
+        let done = dispatch(self.alloc, &mut self.layers, &mut self.last, site, command);
         self.spent = stop_of(&done);
         done
     }

@@ -1,5 +1,5 @@
 use Rattle.std.proofs.Common.{sym, ◌∙◌}
-use Rattle.ts_store.proofs.MadeLaws.{additions_rise, counted_is, is_base_of}
+use Rattle.ts_store.proofs.NewBaseLaws.{additions_rise, counted_is, is_base_of}
 use Rattle.ts_store.proofs.base.make_numbered.Goals as goal
 
 pub returns-then-not-have_numbers : goal.returns-then-not-have_numbers

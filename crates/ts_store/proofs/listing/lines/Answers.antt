@@ -2,7 +2,7 @@ use Rattle.std.proofs.Common.{◌+◌, ◌∙◌, Bool, false, IsTrue, ap, sym, 
 use Rattle.ts_model.specs.Fits.{fits}
 use Rattle.ts_nt.specs.TripleLine.{triple_line}
 use Rattle.ts_store.proofs.CallLaws.{says_more}
-use Rattle.ts_store.proofs.FrontLaws.{count_below, count_more, count_same, lines_more, lines_ended, text_same}
+use Rattle.ts_store.proofs.PrefixLaws.{count_below, count_more, count_same, lines_more, lines_ended, text_same}
 use Rattle.ts_store.proofs.listing.lines.Goals as goal
 use Rattle.ts_store.proofs.listing.lines.Goals.{then-fits+in-Ok, else-fits}
 

@@ -17,4 +17,4 @@ pub returns-in-None-clause-file : goal.returns-in-None-clause-file
 returns-in-None-clause-file c =
     let layer = c.in-Ok.layer in
     let ok = rw c.in-None.is at c.in-Ok.ensures.ok in
-    base_file c.args.number c.args.bytes.now layer.additions.items layer.removals.items c.load.result.triples.items ok.1 ok.2 c.load.ensures.same
+    base_file c.args.number c.args.bytes.now layer.additions.items layer.removals.items c.base_layer_of.result.triples.items ok.1 ok.2 c.base_layer_of.ensures.same

@@ -2,7 +2,7 @@ use Rattle.std.proofs.Common.{◌∙◌, ℕ, List, All, IsTrue, get_or, sym, su
 use Rattle.std.specs.FinMap.{contains_key}
 use Rattle.std.proofs.lemmas.List.Elements.{Contains-get_or}
 use Rattle.ts_replace.specs.Names.{layer_name}
-use Rattle.ts_store.specs.Doing.{IsFirstOf}
+use Rattle.ts_store.specs.StepParts.{IsFirstOf}
 use Rattle.ts_store.proofs.FoundLaws.{first_layer, sound, says_read, other_fault}
 use Rattle.ts_store.proofs.open.read_found.Goals as goal
 

@@ -2,8 +2,8 @@ use Rattle.std.proofs.Common.{◌∙◌, All, Bool, IsTrue, false, get_or, sym, 
 use Rattle.std.proofs.lemmas.List.{take_all}
 use Rattle.std.proofs.lemmas.List.Elements.{All-push}
 use Rattle.ts_site.specs.Folder.{Folder}
-use Rattle.ts_store.specs.Doing.{IsReadFrom}
-use Rattle.ts_store.specs.Loaded.{IsLoaded}
+use Rattle.ts_store.specs.StepParts.{IsReadFrom}
+use Rattle.ts_store.specs.BaseLayers.{IsBaseLayer}
 use Rattle.ts_store.proofs.CallLaws.{reads_more}
 use Rattle.ts_store.proofs.OpenLaws.{get_or-default, first_of, more_numbers, are_loaded}
 use Rattle.ts_store.proofs.open.read_layers.Goals as goal
@@ -36,7 +36,7 @@ loop-number-preserved g c =
     let pushed = c.in-Ok-push.ensures.items in
     record {
       numbers = more_numbers layers numbers c.loop-number.number-index loaded c.push.new.self.items c.loop-number-test.true ok.loaded.0 before.numbers pushed;
-      loaded = subst (All IsLoaded) (sym pushed) (All-push IsLoaded layers loaded before.loaded ok.loaded.1);
+      loaded = subst (All IsBaseLayer) (sym pushed) (All-push IsBaseLayer layers loaded before.loaded ok.loaded.1);
       says = λ told.
           let told_then = subst (λ (b : Bool). IsTrue b) (sym before.reads.telling) told in
           subst (All (IsReadFrom folder)) (sym pushed) (All-push (IsReadFrom folder) layers loaded (before.says told) (subst (λ (f : Folder). IsReadFrom f loaded) (before.reads.folder told) (ok.says told_then)));

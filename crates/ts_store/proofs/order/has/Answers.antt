@@ -2,7 +2,7 @@ use Rattle.std.proofs.Common.{rules}
 use Rattle.std.proofs.lemmas.Fn.{always_returns_same}
 use Rattle.std.proofs.lemmas.List.Sorted.{searchable_from_sorted}
 use Rattle.ts_model.specs.TextTriple.{TextTriple}
-use Rattle.ts_store.specs.Loaded.{base_cmp}
+use Rattle.ts_store.specs.BaseLayers.{base_cmp}
 use Rattle.ts_store.proofs.BaseLaws.{base_cmp_total, found_at, found_nowhere, sorted_strictly}
 use Rattle.ts_store.proofs.order.has.Goals as goal
 

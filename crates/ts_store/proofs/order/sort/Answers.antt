@@ -2,7 +2,7 @@ use Rattle.std.proofs.Common.{rules}
 use Rattle.std.specs.Ordering.{is_lt}
 use Rattle.std.proofs.lemmas.List.Sorted.{ranks_by, answers_always}
 use Rattle.ts_model.specs.TextTriple.{TextTriple}
-use Rattle.ts_store.specs.Loaded.{base_cmp}
+use Rattle.ts_store.specs.BaseLayers.{base_cmp}
 use Rattle.ts_store.proofs.BaseLaws.{base_cmp_total}
 use Rattle.ts_store.proofs.order.sort.Goals as goal
 

@@ -2,9 +2,9 @@ use Rattle.std.proofs.Common.{IsTrue, List, filter, sym, ap, subst, ◌∙◌}
 use Rattle.ts_model.specs.TextTriple.{TextTriple}
 use Rattle.ts_model.specs.Fits.{fits}
 use Rattle.ts_store.specs.Step.{Stepped, does, listing_text}
-use Rattle.ts_store.specs.Doing.{state_of}
-use Rattle.ts_store.proofs.AskLaws.{asked_listing}
-use Rattle.ts_store.proofs.ask.list_at.Goals as goal
+use Rattle.ts_store.specs.StepParts.{state_of}
+use Rattle.ts_store.proofs.QueryLaws.{asked_listing}
+use Rattle.ts_store.proofs.queries.list_at.Goals as goal
 use Rattle.ts_store.specs.Leaves.{LeavesTold}
 
 pub returns-in-Some-clause-told : goal.returns-in-Some-clause-told

@@ -10,7 +10,7 @@ use Rattle.ts_script.specs.Replies.{line}
 use Rattle.ts_store.specs.declared.stop.Stop.{Stop}
 use Rattle.ts_store.specs.declared.stop.Kind.{Kind}
 use Rattle.ts_store.specs.declared.stop.Stop.TheVariants.{Usage, Damaged, DiskFault, InputFault, OutputFault, InputLimit, Memory}
-use Rattle.ts_store.specs.Doing.{IsAskingStop, IsSaidAt, SaysFront}
+use Rattle.ts_store.specs.StepParts.{IsQueryStop, IsSaidAt, SaysPrefix}
 use Rattle.ts_store.specs.Leaves.{AreLines, LeavesTold}
 
 -- lines behind lines are lines
@@ -39,13 +39,13 @@ triple_lines before triple = lines_end before (triple_line triple) (spelled, app
 
 module _ (Is : List ℕ → Type 0) where
   -- a front of a piece was said
-  pub front_taken : (piece old new : List ℕ) (n : ℕ) → Is (take n piece) → new ≡ old ++ take n piece → SaysFront Is piece old new (drop n piece)
-  front_taken piece old new n is e = (take n piece, is, e, take-append-drop n piece)
+  pub prefix_taken : (piece old new : List ℕ) (n : ℕ) → Is (take n piece) → new ≡ old ++ take n piece → SaysPrefix Is piece old new (drop n piece)
+  prefix_taken piece old new n is e = (take n piece, is, e, take-append-drop n piece)
 
   -- more of a text was said
-  pub front_more : ((a b : List ℕ) → AreLines a → Is b → Is (a ++ b)) → (text line old between new rest left : List ℕ)
-      → SaysFront AreLines text old between left → SaysFront Is (left ++ line) between new rest → SaysFront Is (text ++ line) old new rest
-  front_more closed text line old between new rest left (one, lines, is, whole) (other, lines_other, is_other, whole_other) = (
+  pub prefix_more : ((a b : List ℕ) → AreLines a → Is b → Is (a ++ b)) → (text line old between new rest left : List ℕ)
+      → SaysPrefix AreLines text old between left → SaysPrefix Is (left ++ line) between new rest → SaysPrefix Is (text ++ line) old new rest
+  prefix_more closed text line old between new rest left (one, lines, is, whole) (other, lines_other, is_other, whole_other) = (
     one ++ other,
     closed one other lines lines_other,
     is_other ∙ ap (λ l. l ++ other) is ∙ append_assoc old one other,
@@ -53,26 +53,26 @@ module _ (Is : List ℕ → Type 0) where
   )
 
   -- a front of a text is one of a longer text
-  pub front_longer : (text more longer old new rest : List ℕ) → longer ≡ text ++ more → SaysFront Is text old new rest → SaysFront Is longer old new (rest ++ more)
-  front_longer text more longer old new rest e (said, lines, is, whole) =
+  pub prefix_longer : (text more longer old new rest : List ℕ) → longer ≡ text ++ more → SaysPrefix Is text old new rest → SaysPrefix Is longer old new (rest ++ more)
+  prefix_longer text more longer old new rest e (said, lines, is, whole) =
       (said, lines, is, sym (append_assoc said rest more) ∙ ap (λ l. l ++ more) whole ∙ sym e)
 
   -- and so many bytes of it
-  pub front_length : (text old new rest : List ℕ) → SaysFront Is text old new rest → (n : ℕ) × Is (take n text) × (new ≡ old ++ take n text)
-  front_length text old new rest (said, lines, is, whole) =
+  pub prefix_length : (text old new rest : List ℕ) → SaysPrefix Is text old new rest → (n : ℕ) × Is (take n text) × (new ≡ old ++ take n text)
+  prefix_length text old new rest (said, lines, is, whole) =
       let front : said ≡ take (length said) text = sym (take-append_seam said rest) ∙ ap (take (length said)) whole in
       (length said, subst Is front lines, is ∙ ap (λ l. old ++ l) front)
 
   -- fewer than all, where something is left
-  pub front_shorter : (text old new rest : List ℕ) → 0 < length rest → SaysFront Is text old new rest → (n : ℕ) × (n < length text) × Is (take n text) × (new ≡ old ++ take n text)
-  front_shorter text old new rest longer (said, lines, is, whole) =
+  pub prefix_shorter : (text old new rest : List ℕ) → 0 < length rest → SaysPrefix Is text old new rest → (n : ℕ) × (n < length text) × Is (take n text) × (new ≡ old ++ take n text)
+  prefix_shorter text old new rest longer (said, lines, is, whole) =
       let whole_length = ap length whole in
       let front : said ≡ take (length said) text = sym (take-append_seam said rest) ∙ ap (take (length said)) whole in
       (length said, omega (arith, whole_length, length-append said rest), subst Is front lines, is ∙ ap (λ l. old ++ l) front)
 
 -- nothing was said yet
-pub front_none : (text old : List ℕ) → SaysFront AreLines text old old text
-front_none text old = ([], inl refl, sym (append-nil old), refl)
+pub prefix_none : (text old : List ℕ) → SaysPrefix AreLines text old old text
+prefix_none text old = ([], inl refl, sym (append-nil old), refl)
 
 length-filter : {A : Type 0} (p : A → Bool) (xs : List A) → length (filter p xs) ≤ length xs
 length-filter p [] = omega arith
@@ -108,20 +108,20 @@ module _ {A : Type 0} (p : A → Bool) (f : A → List ℕ) (xs : List A) (i : �
     pub count_same : p x ≡ false → length (filter p (take (i + 1) xs)) ≡ length (filter p (take i xs))
     count_same e = ap length (more false e ∙ append-nil (filter p (take i xs)))
 
-    module _ (e : p x ≡ true) (old between new piece left : List ℕ) (before : SaysFront AreLines (text_of i) old between piece) where
-      more_of : (Is : List ℕ → Type 0) → ((a b : List ℕ) → AreLines a → Is b → Is (a ++ b)) → SaysFront Is (piece ++ f x) between new left → SaysFront Is (text_of (i + 1)) old new left
-      more_of Is closed now = subst (λ text. SaysFront Is text old new left) (sym (text_more e)) (front_more Is closed (text_of i) (f x) old between new left piece before now)
+    module _ (e : p x ≡ true) (old between new piece left : List ℕ) (before : SaysPrefix AreLines (text_of i) old between piece) where
+      more_of : (Is : List ℕ → Type 0) → ((a b : List ℕ) → AreLines a → Is b → Is (a ++ b)) → SaysPrefix Is (piece ++ f x) between new left → SaysPrefix Is (text_of (i + 1)) old new left
+      more_of Is closed now = subst (λ text. SaysPrefix Is text old new left) (sym (text_more e)) (prefix_more Is closed (text_of i) (f x) old between new left piece before now)
 
       -- one line more
-      pub lines_more : SaysFront AreLines (piece ++ f x) between new left → SaysFront AreLines (text_of (i + 1)) old new left
+      pub lines_more : SaysPrefix AreLines (piece ++ f x) between new left → SaysPrefix AreLines (text_of (i + 1)) old new left
       lines_more = more_of AreLines lines_append
 
       -- and there it ended
-      pub lines_ended : (stop : Stop) → SaysFront (IsSaidAt stop) (piece ++ f x) between new left → (rest : List ℕ) × SaysFront (IsSaidAt stop) (flat_map f (filter p xs)) old new rest
+      pub lines_ended : (stop : Stop) → SaysPrefix (IsSaidAt stop) (piece ++ f x) between new left → (rest : List ℕ) × SaysPrefix (IsSaidAt stop) (flat_map f (filter p xs)) old new rest
       lines_ended stop now =
           let line : flat_map f (filter p xs) ≡ text_of (i + 1) ++ flat_map f (filter p (drop (i + 1) xs)) = text_rest_at (i + 1) in (
             left ++ flat_map f (filter p (drop (i + 1) xs)),
-            front_longer (IsSaidAt stop) (text_of (i + 1)) (flat_map f (filter p (drop (i + 1) xs))) (flat_map f (filter p xs)) old new left line (more_of (IsSaidAt stop) (said_append stop) now),
+            prefix_longer (IsSaidAt stop) (text_of (i + 1)) (flat_map f (filter p (drop (i + 1) xs))) (flat_map f (filter p xs)) old new left line (more_of (IsSaidAt stop) (said_append stop) now),
           )
 
 -- a line has a byte at least
@@ -129,11 +129,11 @@ pub line_is_longer : (text : List ℕ) → 0 < length (line text)
 line_is_longer text = omega (arith, length-append text (10 ∷ []))
 
 -- a front of the lines is one of the whole reply
-pub list_ended : (stop : Stop) (text total old new : List ℕ) → IsAskingStop stop → 0 < length total → (left : List ℕ) × SaysFront (IsSaidAt stop) text old new left → LeavesTold (Err stop) (text ++ total) old new
+pub list_ended : (stop : Stop) (text total old new : List ℕ) → IsQueryStop stop → 0 < length total → (left : List ℕ) × SaysPrefix (IsSaidAt stop) text old new left → LeavesTold (Err stop) (text ++ total) old new
 list_ended OutputFault text total old new why longer (left, said) =
-    let taken = front_length (IsSaidAt OutputFault) (text ++ total) old new (left ++ total) (front_longer (IsSaidAt OutputFault) text total (text ++ total) old new left refl said) in (taken.0, taken.2)
+    let taken = prefix_length (IsSaidAt OutputFault) (text ++ total) old new (left ++ total) (prefix_longer (IsSaidAt OutputFault) text total (text ++ total) old new left refl said) in (taken.0, taken.2)
 list_ended Memory text total old new why longer (left, said) =
-    front_shorter AreLines (text ++ total) old new (left ++ total) (omega (arith, length-append left total)) (front_longer AreLines text total (text ++ total) old new left refl said)
+    prefix_shorter AreLines (text ++ total) old new (left ++ total) (omega (arith, length-append left total)) (prefix_longer AreLines text total (text ++ total) old new left refl said)
 list_ended Usage text total old new why longer said = absurd why
 list_ended (Damaged name) text total old new why longer said = absurd why
 list_ended DiskFault text total old new why longer said = absurd why
@@ -141,15 +141,15 @@ list_ended InputFault text total old new why longer said = absurd why
 list_ended InputLimit text total old new why longer said = absurd why
 
 -- what was left of the lines is said with the last one
-pub list_done : (result : Result Kind Stop) (text total old between new piece : List ℕ) → IfErr result IsAskingStop → SaysFront AreLines text old between piece → LeavesTold result (piece ++ total) between new → LeavesTold result (text ++ total) old new
+pub list_done : (result : Result Kind Stop) (text total old between new piece : List ℕ) → IfErr result IsQueryStop → SaysPrefix AreLines text old between piece → LeavesTold result (piece ++ total) between new → LeavesTold result (text ++ total) old new
 list_done (Ok kind) text total old between new piece why (said, lines, is, whole) told =
     told ∙ ap (λ l. l ++ (piece ++ total)) is ∙ append_assoc old said (piece ++ total) ∙ ap (λ l. old ++ l) (sym (append_assoc said piece total) ∙ ap (λ l. l ++ total) whole)
 list_done (Err OutputFault) text total old between new piece why before (n, is) =
-    let taken = front_length (IsSaidAt OutputFault) (text ++ total) old new (drop n (piece ++ total))
-    (front_more (IsSaidAt OutputFault) (said_append OutputFault) text total old between new (drop n (piece ++ total)) piece before (front_taken (IsSaidAt OutputFault) (piece ++ total) between new n tt is)) in (taken.0, taken.2)
+    let taken = prefix_length (IsSaidAt OutputFault) (text ++ total) old new (drop n (piece ++ total))
+    (prefix_more (IsSaidAt OutputFault) (said_append OutputFault) text total old between new (drop n (piece ++ total)) piece before (prefix_taken (IsSaidAt OutputFault) (piece ++ total) between new n tt is)) in (taken.0, taken.2)
 list_done (Err Memory) text total old between new piece why before (n, below, lines, is) =
-    front_shorter AreLines (text ++ total) old new (drop n (piece ++ total)) (omega (arith, length-drop n (piece ++ total)))
-    (front_more AreLines lines_append text total old between new (drop n (piece ++ total)) piece before (front_taken AreLines (piece ++ total) between new n lines is))
+    prefix_shorter AreLines (text ++ total) old new (drop n (piece ++ total)) (omega (arith, length-drop n (piece ++ total)))
+    (prefix_more AreLines lines_append text total old between new (drop n (piece ++ total)) piece before (prefix_taken AreLines (piece ++ total) between new n lines is))
 list_done (Err Usage) text total old between new piece why before told = absurd why
 list_done (Err (Damaged name)) text total old between new piece why before told = absurd why
 list_done (Err DiskFault) text total old between new piece why before told = absurd why

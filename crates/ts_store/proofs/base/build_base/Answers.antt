@@ -3,7 +3,7 @@ use Rattle.ts_model.specs.Order.{triple_cmp, triple_cmp_total, triple_cmp-IsAnti
 use Rattle.ts_model.specs.Sets.{from_list}
 use Rattle.ts_model.proofs.SetAlgebra.{members-from_rising}
 use Rattle.ts_plain.proofs.RuleLaws.{KeepsPlainRules-of_base}
-use Rattle.ts_store.proofs.base.lay.Goals as goal
+use Rattle.ts_store.proofs.base.build_base.Goals as goal
 
 pub write_plain-requires : goal.write_plain-requires
 write_plain-requires c =

@@ -11,7 +11,7 @@ use Rattle.ts_model.specs.Order.{kind_place}
 use Rattle.ts_model.specs.Sets.{from_list}
 use Rattle.ts_model.specs.History.{History, LayerRecord}
 use Rattle.ts_replace.specs.Names.{IsLayerNumber}
-use Rattle.ts_store.specs.declared.loaded.Loaded.{Loaded}
+use Rattle.ts_store.specs.declared.base_layer.BaseLayer.{BaseLayer}
 
 -- birth order in a base, where all births are equal: node before value, then spelling
 abbrev pub base_key_cmp : TextTerm → TextTerm → Ordering
@@ -26,18 +26,18 @@ base_cmp =
 abbrev pub base_record : List TextTriple → LayerRecord
 base_record triples = record { parent = None; additions = from_list triples; removals = empty }
 
-abbrev pub loaded_entry : Loaded → ℕ × LayerRecord
-loaded_entry loaded = (loaded.number, base_record loaded.triples.items)
+abbrev pub entry_of : BaseLayer → ℕ × LayerRecord
+entry_of loaded = (loaded.number, base_record loaded.triples.items)
 
-abbrev pub history_kept : List Loaded → History
-history_kept layers = from_entries (map loaded_entry layers)
+abbrev pub history_of_bases : List BaseLayer → History
+history_of_bases layers = from_entries (map entry_of layers)
 
 -- the triples are in birth order, each once
-pub record IsLoaded (loaded : Loaded) : Type 0 where
+pub record IsBaseLayer (loaded : BaseLayer) : Type 0 where
   pub number : IsLayerNumber loaded.number
   pub rises : IsStrictlySortedBy base_cmp loaded.triples.items
 
 -- in rising number
-pub record AreLoaded (layers : List Loaded) : Type 0 where
+pub record AreBaseLayers (layers : List BaseLayer) : Type 0 where
   pub rise : IsStrictlySortedBy nat_cmp (map (λ loaded. loaded.number) layers)
-  pub each : All IsLoaded layers
+  pub each : All IsBaseLayer layers

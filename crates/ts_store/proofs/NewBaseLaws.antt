@@ -19,10 +19,10 @@ use Rattle.ts_replace.specs.Names.{IsLayerNumber, layer_name, rollup_name, label
 use Rattle.ts_replace.specs.Replaced.{new_tmp, replaced}
 use Rattle.ts_site.specs.Folder.{Folder, IsAnyAt}
 use Rattle.ts_site.proofs.FolderLemmas.{get-insert_same, get-insert_other, get-remove_other}
-use Rattle.ts_store.specs.declared.loaded.Loaded.{Loaded}
-use Rattle.ts_store.specs.Doing.{IsBaseOf, IsMade}
+use Rattle.ts_store.specs.declared.base_layer.BaseLayer.{BaseLayer}
+use Rattle.ts_store.specs.StepParts.{IsBaseOf, IsNewBase}
 use Rattle.std.specs.List.Sorted.{IsStrictlySortedBy}
-use Rattle.ts_store.specs.Loaded.{IsLoaded, base_record}
+use Rattle.ts_store.specs.BaseLayers.{IsBaseLayer, base_record}
 use Rattle.ts_store.specs.Step.{base_of, next_number, are_counted, is_numbered}
 use Rattle.ts_store.proofs.NameLaws.{layer_name-tells, layer_is_not_new, rollup_is_not_layer, rollup_is_not_new, label_is_not_layer, label_is_not_new}
 use Rattle.ts_store.specs.Files.{AreFilesOf, IsBase, file_of}
@@ -44,8 +44,8 @@ module _ (number : ℕ) (body : List SignedTriple) (additions : List TextTriple)
         let triples : shown ≡ members (net_additions empty body) = lent ∙ additions_are in
         λ i. nat_lt ((counts ∙ ap term_count triples) i) (2 ^ 32) && nat_lt ((predicate_counts ∙ ap predicate_count triples) i) (2 ^ 32)
 
-    pub is_base_of : (loaded : Loaded) (file : List ℕ) → (nat_lt terms (2 ^ 32) && nat_lt predicates (2 ^ 32)) ≡ true
-        → loaded.number ≡ number → IsLoaded loaded → All IsTriple additions → from_list {R = triple_cmp} loaded.triples.items ≡ from_list additions → file ≡ plain_file number None additions []
+    pub is_base_of : (loaded : BaseLayer) (file : List ℕ) → (nat_lt terms (2 ^ 32) && nat_lt predicates (2 ^ 32)) ≡ true
+        → loaded.number ≡ number → IsBaseLayer loaded → All IsTriple additions → from_list {R = triple_cmp} loaded.triples.items ≡ from_list additions → file ≡ plain_file number None additions []
         → IsBaseOf number body loaded file
     is_base_of loaded file left given sound triples same bytes = record {
       counted = sym counted_is ∙ left;
@@ -69,7 +69,7 @@ says_any folder after history any says = record {
     same name other (inl removed) = ap (λ f. get f name) removed ∙ get-remove_other folder new_tmp name other
     same name other (inr (bytes, put)) = ap (λ f. get f name) put ∙ get-insert_other folder new_tmp bytes name other
 
-module _ (history : History) (body : List SignedTriple) (loaded : Loaded) (file : List ℕ) (made : IsMade history body loaded file) where
+module _ (history : History) (body : List SignedTriple) (loaded : BaseLayer) (file : List ℕ) (made : IsNewBase history body loaded file) where
   pub record_is : base_record loaded.triples.items ≡ base_of body
   record_is = λ i. record { parent = None; additions = made.same i; removals = empty }
 

@@ -1,8 +1,8 @@
 // Doing a command.
 ghost use Rattle.std.specs.Prelude.{◌≡◌, IsTrue, IfOk, IfErr, Err, false};
 ghost use Rattle.ts_site.specs.Faults.{CountsFault, is_err_and};
-ghost use Rattle.ts_store.specs.Doing.{IsNewest, state_of};
-ghost use Rattle.ts_store.specs.Loaded.{AreLoaded, history_kept};
+ghost use Rattle.ts_store.specs.StepParts.{IsNewest, state_of};
+ghost use Rattle.ts_store.specs.BaseLayers.{AreBaseLayers, history_of_bases};
 ghost use Rattle.ts_store.specs.Step.{step_of};
 ghost use Rattle.ts_store.specs.AfterBase.{LeavesFiles, LeavesHistory, folder_of};
 ghost use Rattle.ts_store.specs.Files.{AreFilesOf};
@@ -11,25 +11,25 @@ ghost use Rattle.ts_store.specs.Memory.{TakesNoMemory, is_listing};
 ghost use Rattle.ts_store.specs.Stops.{IsStepStop, KeepsTelling, is_disk_fault, is_output_fault, kind_of};
 
 use crate::answer::refuse;
-use crate::ask::{has_at, list_at};
-use crate::loaded::Loaded;
-use crate::place::make_base;
+use crate::queries::{has_at, list_at};
+use crate::base_layer::BaseLayer;
+use crate::publish::make_base;
 use crate::{Kind, Stop};
 use std::alloc::Global;
 use ts_script::{Command, Ref, Refusal};
 use ts_site::{Disk, Site};
 
 /// Does a command on layers that are in memory, and says its reply.
-pub(crate) fn do_command<W: Site>(
+pub(crate) fn dispatch<W: Site>(
     alloc: Global,
-    layers: &mut Vec<Loaded>,
+    layers: &mut Vec<BaseLayer>,
     last: &mut Option<u32>,
     site: &mut W,
     command: &Command,
 ) -> Result<Kind, Stop>
-    requires loaded { AreLoaded layers.old.items }
+    requires loaded { AreBaseLayers layers.old.items }
     requires newest { IsNewest layers.old.items last.old }
-    ensures loaded { AreLoaded layers.new.items }
+    ensures loaded { AreBaseLayers layers.new.items }
     ensures newest { IsNewest layers.new.items last.new }
     ensures state { let stepped = step_of (state_of layers.old.items last.old) command.now in
         IfOk result (λ kind. (state_of layers.new.items last.new ≡ stepped.state) × (kind ≡ kind_of stepped.refused)) }
@@ -37,8 +37,8 @@ pub(crate) fn do_command<W: Site>(
         → LeavesTold result (step_of (state_of layers.old.items last.old) command.now).told (W.outside site.old).told (W.outside site.new).told }
     ensures folder { IsTrue (W.outside site.old).tells_folder
         → LeavesFiles result (folder_of (W.outside site.old).folder (state_of layers.old.items last.old) command.now) (W.outside site.old).folder (W.outside site.new).folder }
-    ensures says { IsTrue (W.outside site.old).tells_folder → AreFilesOf (W.outside site.old).folder (history_kept layers.old.items)
-        → LeavesHistory (AreFilesOf (W.outside site.new).folder) result (history_kept layers.old.items) (step_of (state_of layers.old.items last.old) command.now).state.history }
+    ensures says { IsTrue (W.outside site.old).tells_folder → AreFilesOf (W.outside site.old).folder (history_of_bases layers.old.items)
+        → LeavesHistory (AreFilesOf (W.outside site.new).folder) result (history_of_bases layers.old.items) (step_of (state_of layers.old.items last.old) command.now).state.history }
     ensures why { IfErr result IsStepStop }
     ensures untouched { is_listing command.now ≡ false → result ≡ Err Stop.Memory → site.new ≡ site.old }
     ensures free { TakesNoMemory (state_of layers.old.items last.old) command.now → IfErr result (λ stop. stop ≡ Stop.Memory → ⊥) }

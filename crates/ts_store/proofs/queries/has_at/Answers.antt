@@ -4,9 +4,9 @@ use Rattle.std.specs.Ordering.{eq_by_cmp}
 use Rattle.ts_model.specs.TextTriple.{TextTriple}
 use Rattle.ts_model.specs.Order.{triple_cmp}
 use Rattle.ts_store.specs.Step.{Stepped, does, has_text}
-use Rattle.ts_store.specs.Doing.{state_of}
-use Rattle.ts_store.proofs.AskLaws.{asked_has}
-use Rattle.ts_store.proofs.ask.has_at.Goals as goal
+use Rattle.ts_store.specs.StepParts.{state_of}
+use Rattle.ts_store.proofs.QueryLaws.{asked_has}
+use Rattle.ts_store.proofs.queries.has_at.Goals as goal
 use Rattle.ts_store.specs.Leaves.{LeavesTold}
 
 pub returns-in-Some-clause-told : goal.returns-in-Some-clause-told

@@ -11,8 +11,8 @@ use Rattle.ts_model.specs.Sets.{from_list}
 use Rattle.ts_model.proofs.SetLaws.{contains-from_list, same_set, IsStrictlySortedBy-members}
 use Rattle.ts_plain.proofs.ListingLaws.{members-sorted}
 use Rattle.ts_replace.specs.Names.{IsLayerNumber}
-use Rattle.ts_store.specs.declared.loaded.Loaded.{Loaded}
-use Rattle.ts_store.specs.Loaded.{IsLoaded, base_cmp}
+use Rattle.ts_store.specs.declared.base_layer.BaseLayer.{BaseLayer}
+use Rattle.ts_store.specs.BaseLayers.{IsBaseLayer, base_cmp}
 use Rattle.ts_store.proofs.BaseLaws.{base_cmp_total, base_cmp-IsAntisymmetric}
 
 abbrev some_term : TextTerm
@@ -33,9 +33,9 @@ from_list-moved xs ys moved = same_set triple_cmp triple_cmp_total triple_cmp-Is
     ∙ sym (list_any-IsPermutation (eq_by_cmp triple_cmp q) xs ys moved)
     ∙ sym (contains-from_list triple_cmp triple_cmp_total xs q))
 
-pub IsLoaded-sorted : (loaded : Loaded) (xs : List TextTriple) → IsLayerNumber loaded.number → IsStrictlySortedBy triple_cmp xs → IsPermutation xs loaded.triples.items
-    → IsSorted base_cmp loaded.triples.items → IsLoaded loaded
-IsLoaded-sorted loaded xs number rise moved sorted = record {
+pub IsBaseLayer-sorted : (loaded : BaseLayer) (xs : List TextTriple) → IsLayerNumber loaded.number → IsStrictlySortedBy triple_cmp xs → IsPermutation xs loaded.triples.items
+    → IsSorted base_cmp loaded.triples.items → IsBaseLayer loaded
+IsBaseLayer-sorted loaded xs number rise moved sorted = record {
   number = number;
   rises = rising-sorted xs loaded.triples.items rise moved sorted;
 }
