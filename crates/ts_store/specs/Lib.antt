@@ -1,5 +1,5 @@
 pub mod AfterBase
-pub mod BaseLayer
+pub mod BaseLayers
 pub mod Files
 pub mod FolderSays
 pub mod Keeps
