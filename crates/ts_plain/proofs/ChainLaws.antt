@@ -1,5 +1,5 @@
 -- What layers that are a chain hold and bear is what the history says.
-use Rattle.std.proofs.Common.{◌≡◌, ◌<◌, ℕ, suc, IsTrue, true≢false, cond, IfSome, IfNone, Bool, false, not, ◌&&◌, ◌||◌, List, [], ◌∷◌, ◌++◌, map, reverse, Option, Some, None, All, refl, sym, ap, ◌∙◌, subst}
+use Rattle.std.proofs.Common.{◌≡◌, ◌<◌, ℕ, suc, ◌+◌, IsTrue, true≢false, cond, IfSome, IfNone, Bool, false, not, ◌&&◌, ◌||◌, List, [], ◌∷◌, ◌++◌, map, reverse, Option, Some, None, All, refl, sym, ap, ◌∙◌, subst}
 use Rattle.std.specs.List.{list_any}
 use Rattle.std.specs.Option.{option_map, is_some}
 use Rattle.std.specs.FinMap.{empty, get, contains_key}
@@ -33,6 +33,11 @@ map-reverse f (x ∷ xs) =
 abbrev pub number_of : Option (Bor PlainLayer) → Option ℕ
 number_of None = None
 number_of (Some layer) = Some layer.now.number
+
+-- numbers fall towards the base, so that a climb ends
+abbrev pub left : Option (Bor PlainLayer) → ℕ
+left None = 0
+left (Some layer) = layer.now.number + 1
 
 module _ (history : History) where
   added : (layer : PlainLayer) → StandsIn history layer → additions_at history layer.number ≡ from_list layer.additions.items
@@ -103,16 +108,17 @@ module _ (history : History) where
   parent_stands layer None h = tt
   parent_stands layer (Some p) h = h.1
 
+  -- the parent, as it was looked up
+  pub number-of_parent : (o : Option (Bor PlainLayer)) (parent : Option ℕ) → IfSome o (λ p. (parent ≡ Some p.now.number) × StandsIn history p.now) → IfNone o (parent ≡ None)
+      → number_of o ≡ parent
+  number-of_parent None parent some none = sym none
+  number-of_parent (Some p) parent some none = sym some.0
+
   -- ---- the way up, one layer at a time
 
   module _ (kept : IsWellKept history) (number : ℕ) (items : List (Bor PlainLayer)) where
     abbrev climbed : List (Bor PlainLayer) → List ℕ
     climbed layers = map (λ layer. layer.now.number) layers
-
-    number-of_parent : (o : Option (Bor PlainLayer)) (parent : Option ℕ) → IfSome o (λ p. (parent ≡ Some p.now.number) × StandsIn history p.now) → IfNone o (parent ≡ None)
-        → number_of o ≡ parent
-    number-of_parent None parent some none = sym none
-    number-of_parent (Some p) parent some none = sym some.0
 
     pub climb : (layer : Bor PlainLayer) (o next : Option (Bor PlainLayer)) → o ≡ Some layer → StandsIn history layer.now
         → IfSome next (λ p. (layer.now.parent ≡ Some p.now.number) × StandsIn history p.now) → IfNone next (layer.now.parent ≡ None)

@@ -1,13 +1,17 @@
+pub mod AmongLaws
 pub mod ApartLaws
 pub mod ChainLaws
+pub mod ContentLaws
 pub mod CutLaws
 pub mod EndLaws
+pub mod GrowthLaws
 pub mod HeadLaws
 pub mod HeldLaws
 pub mod LayerLaws
 pub mod LineLaws
 pub mod ListingLaws
 pub mod LookupLaws
+pub mod NetLaws
 pub mod OneLayer
 pub mod OrderLaws
 pub mod PlainLaws

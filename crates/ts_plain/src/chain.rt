@@ -27,7 +27,7 @@ pub(crate) fn chain<'a>(
 }
 
 /// The layer's parent, if it has one.
-fn parent_of<'a>(layers: &'a [PlainLayer], layer: &'a PlainLayer) -> Option<&'a PlainLayer>
+pub(crate) fn parent_of<'a>(layers: &'a [PlainLayer], layer: &'a PlainLayer) -> Option<&'a PlainLayer>
     requires history { AreHistory layers.now }
     requires stands { StandsIn (history_of layers.now) layer.now }
     ensures some { IfSome result (λ parent.
@@ -40,8 +40,8 @@ fn parent_of<'a>(layers: &'a [PlainLayer], layer: &'a PlainLayer) -> Option<&'a 
     }
 }
 
-/// The layer of a number, by binary search.
-fn layer_at<'a>(layers: &'a [PlainLayer], number: u32) -> Option<&'a PlainLayer>
+/// The layer of a number, by binary search; `None` exactly where no layer of that number stands.
+pub fn layer_at<'a>(layers: &'a [PlainLayer], number: u32) -> Option<&'a PlainLayer>
     requires history { AreHistory layers.now }
     ensures some { IfSome result (λ layer.
         (layer.now.number ≡ number) × StandsIn (history_of layers.now) layer.now) }

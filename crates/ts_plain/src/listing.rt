@@ -1,7 +1,9 @@
 ghost use Rattle.std.specs.Prelude.{◌≡◌, map, unwrap_or, All, IfOk, IsTrue};
 ghost use Rattle.std.specs.FinMap.{contains_key};
-ghost use Rattle.std.specs.List.Sorted.{IsPermutation, IsSorted};
-ghost use Rattle.ts_model.specs.Listing.{listing};
+ghost use Rattle.std.specs.List.Sorted.{IsPermutation, IsSorted, IsStrictlySortedBy};
+ghost use Rattle.ts_model.specs.Listing.{in_birth_order, listing};
+ghost use Rattle.ts_model.specs.Order.{triple_cmp};
+ghost use Rattle.ts_model.specs.Sets.{from_list};
 ghost use Rattle.ts_plain.specs.Held.{birth_in};
 ghost use Rattle.ts_plain.specs.History.{AreHistory, history_of};
 ghost use Rattle.ts_plain.specs.Keys.{IsKeyed, born_cmp, keyed_cmp, tail_cmp};
@@ -32,6 +34,38 @@ pub fn plain_listing(
     let mut triples = with_births(alloc, &births, content.as_slice())?;
     sort(&mut triples);
     copies(alloc, triples.as_slice())
+}
+
+/// The triples of a layer in birth order, each once, as [`plain_listing`] copies them.
+pub fn listing_of<'a>(
+    alloc: Global,
+    layers: &'a [PlainLayer],
+    number: u32,
+) -> Result<Vec<&'a Triple>, AllocError>
+    requires history { AreHistory layers.now }
+    requires stands { IsTrue (contains_key (history_of layers.now) number) }
+    ensures { IfOk result (λ triples.
+        map (λ triple. triple.now) triples.items ≡ listing (history_of layers.now) number) }
+{
+    let _ = (alloc, layers, number);
+    Err(AllocError)
+}
+
+/// A layer's own additions, or its removals, in birth order at it, each once.
+pub fn changes_of<'a>(
+    alloc: Global,
+    layers: &'a [PlainLayer],
+    number: u32,
+    own: &'a [Triple],
+) -> Result<Vec<&'a Triple>, AllocError>
+    requires history { AreHistory layers.now }
+    requires stands { IsTrue (contains_key (history_of layers.now) number) }
+    requires rise { IsStrictlySortedBy triple_cmp own.now }
+    ensures { IfOk result (λ triples.
+        map (λ triple. triple.now) triples.items ≡ in_birth_order (history_of layers.now) number (from_list own.now)) }
+{
+    let _ = (alloc, layers, number, own);
+    Err(AllocError)
 }
 
 /// A triple with the births of its terms.
