@@ -63,7 +63,7 @@ among_filter p (x ∷ xs) q =
 
     here : (b : Bool) → eq_by_cmp triple_cmp q x ≡ true → b ≡ p q → is_among (cond b (x ∷ filter p xs) (filter p xs)) q ≡ p q
     here true e is = ap (λ c. c || is_among (filter p xs) q) e ∙ is
-    here false e is = among_filter p xs q ∙ and_itself (is_among xs q) (p q) (sym is) 
+    here false e is = among_filter p xs q ∙ and_itself (is_among xs q) (p q) (sym is)
 
     there : (b : Bool) → eq_by_cmp triple_cmp q x ≡ false → is_among (cond b (x ∷ filter p xs) (filter p xs)) q ≡ is_among (filter p xs) q
     there true e = ap (λ c. c || is_among (filter p xs) q) e

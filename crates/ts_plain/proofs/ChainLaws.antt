@@ -10,6 +10,7 @@ use Rattle.std.specs.List.Sorted.{IsPermutation}
 use denote.Ref.{Bor}
 use Rattle.std.proofs.lemmas.List.Sorted.{All-permutation, IsPermutation-reverse}
 use Rattle.ts_model.specs.TextTerm.{TextTerm}
+use Rattle.ts_model.specs.TextTriple.{TextTriple}
 use Rattle.ts_model.specs.Birth.{has_term, mentions, first_place, birth_of}
 use Rattle.ts_model.specs.Order.{triple_cmp, triple_cmp_total, triple_cmp-IsAntisymmetric}
 use Rattle.ts_model.specs.Sets.{members, from_list, union, difference}
@@ -95,14 +96,29 @@ module _ (history : History) where
     pub birth_over-chain : (term : TextTerm) → birth_over layers term ≡ birth_of history number term
     birth_over-chain term = first_same term layers chain.stand ∙ ap (first_place (mentions history term)) chain.numbers
 
+  -- what a chain that was lent holds
+  pub members-chain : (number : ℕ) (chain lent : List (Bor PlainLayer)) (content : List (Bor TextTriple)) → IsChain history number (map (λ layer. layer.now) chain) → lent ≡ chain
+      → map (λ triple. triple.now) content ≡ members (content_over (map (λ layer. layer.now) lent)) → map (λ triple. triple.now) content ≡ members (content_at history number)
+  members-chain number chain lent content is same held =
+      held
+      ∙ ap (λ layers. members (content_over (map (λ layer. layer.now) layers))) same
+      ∙ ap members (content_over-chain number (map (λ layer. layer.now) chain) is)
+
   -- the parent of a layer stands
-  pub IfNone-parent : IsWellKept history → (layer : PlainLayer) (parent : ℕ) → StandsIn history layer → layer.parent ≡ Some parent
-      → (found : Option (Bor PlainLayer)) → IfNone found (get history parent ≡ None) → IfNone found (layer.parent ≡ None)
-  IfNone-parent kept layer parent stands is None none =
-      let below : IfSome (Some parent) (λ p. (p < layer.number) × IsTrue (contains_key history p)) =
-      subst (λ o. IfSome o (λ p. (p < layer.number) × IsTrue (contains_key history p))) is (kept layer.number (record_of layer) stands.recorded).parent in
-      absurd (true≢false (sym below.1 ∙ ap is_some none))
-  IfNone-parent kept layer parent stands is (Some found) none = tt
+  pub IfSome-parent : IsWellKept history → (layer : PlainLayer) → StandsIn history layer → IfSome layer.parent (λ p. IsTrue (contains_key history p))
+  IfSome-parent kept layer stands = there layer.parent (kept layer.number (record_of layer) stands.recorded).parent
+    where
+      there : (o : Option ℕ) → IfSome o (λ p. (p < layer.number) × IsTrue (contains_key history p)) → IfSome o (λ p. IsTrue (contains_key history p))
+      there None h = tt
+      there (Some p) h = h.1
+
+  -- a layer that stands is found
+  pub IfNone-standing : (number : Option ℕ) (k : ℕ) → IfSome number (λ k. IsTrue (contains_key history k)) → number ≡ Some k
+      → (found : Option (Bor PlainLayer)) → IfNone found (get history k ≡ None) → IfNone found (number ≡ None)
+  IfNone-standing number k stands is None none =
+      let there : IsTrue (contains_key history k) = subst (λ o. IfSome o (λ k. IsTrue (contains_key history k))) is stands in
+      absurd (true≢false (sym there ∙ ap is_some none))
+  IfNone-standing number k stands is (Some found) none = tt
 
   pub parent_stands : (layer : PlainLayer) (o : Option (Bor PlainLayer)) → IfSome o (λ p. (layer.parent ≡ Some p.now.number) × StandsIn history p.now) → IfSome o (λ p. StandsIn history p.now)
   parent_stands layer None h = tt

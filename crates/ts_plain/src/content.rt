@@ -11,6 +11,8 @@ ghost use Rattle.ts_plain.specs.Chain.{content_over};
 ghost use Rattle.ts_plain.specs.Held.{holds};
 ghost use Rattle.ts_plain.specs.History.{AreHistory, history_of};
 
+use crate::chain::chain;
+use crate::copies::copies;
 use crate::write::PlainLayer;
 use std::alloc::{AllocError, Global};
 use std::collections::BTreeSet;
@@ -26,8 +28,9 @@ pub fn content_of(
     requires stands { IsTrue (contains_key (history_of layers.now) number) }
     ensures { IfOk result (λ triples. triples.items ≡ members (content_at (history_of layers.now) number)) }
 {
-    let _ = (alloc, layers, number);
-    Err(AllocError)
+    let chain = chain(alloc, layers, number)?;
+    let content = content(alloc, chain.as_slice())?;
+    copies(alloc, content.as_slice())
 }
 
 /// The triples of the last of these layers, rising, where each layer is the parent of the next.

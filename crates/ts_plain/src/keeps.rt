@@ -4,7 +4,7 @@ ghost use Rattle.ts_plain.specs.History.{AreHistory};
 ghost use Rattle.ts_plain.specs.PlainRules.{IsPlainLayer};
 
 use crate::chain::layer_at;
-use crate::holds::parent_holds;
+use crate::lookup::parent_holds;
 use crate::write::PlainLayer;
 use ts_model::Triple;
 

@@ -13,10 +13,10 @@
 
 pub use chain::layer_at;
 pub use content::content_of;
-pub use holds::holds;
 pub use keeps::keeps_to_place;
 pub use law::one_layer;
 pub use listing::{changes_of, listing_of, plain_listing};
+pub use lookup::holds;
 pub use net::{NetChange, net_change};
 pub use read::{PlainError, read_plain};
 pub use totals::totals_after;
@@ -27,12 +27,13 @@ mod births;
 mod chain;
 mod changes;
 mod content;
+mod copies;
 mod head;
-mod holds;
 mod keeps;
 mod law;
 mod lines;
 mod listing;
+mod lookup;
 mod net;
 mod read;
 #[cfg(test)]

@@ -4,7 +4,7 @@ use Rattle.ts_model.specs.Sets.{contains}
 use Rattle.ts_plain.specs.Chain.{StandsIn}
 use Rattle.ts_plain.specs.History.{history_of}
 use Rattle.ts_plain.proofs.ChainLaws.{number_of, left}
-use Rattle.ts_plain.proofs.holds.holds.Given as goal
+use Rattle.ts_plain.proofs.lookup.holds.Given as goal
 
 abbrev pub invariant-loop-next : goal.invariant-loop-next
 invariant-loop-next l = record {

@@ -50,5 +50,8 @@ fn is_among(triples: &[Triple], triple: &Triple) -> bool
     requires { IsStrictlySortedBy triple_cmp triples.now }
     ensures { result ≡ list_any (eq_by_cmp triple_cmp triple.now) triples.now }
 {
-    triples.binary_search(triple).is_ok()
+    match triples.binary_search(triple) {
+        Ok(_place) => true,
+        Err(_place) => false,
+    }
 }
