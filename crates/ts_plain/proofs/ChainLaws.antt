@@ -120,9 +120,9 @@ module _ (history : History) where
       absurd (true≢false (sym there ∙ ap is_some none))
   IfNone-standing number k stands is (Some found) none = tt
 
-  pub parent_stands : (layer : PlainLayer) (o : Option (Bor PlainLayer)) → IfSome o (λ p. (layer.parent ≡ Some p.now.number) × StandsIn history p.now) → IfSome o (λ p. StandsIn history p.now)
-  parent_stands layer None h = tt
-  parent_stands layer (Some p) h = h.1
+  pub parent_stands : (parent : Option ℕ) (o : Option (Bor PlainLayer)) → IfSome o (λ p. (parent ≡ Some p.now.number) × StandsIn history p.now) → IfSome o (λ p. StandsIn history p.now)
+  parent_stands parent None h = tt
+  parent_stands parent (Some p) h = h.1
 
   -- the parent, as it was looked up
   pub number-of_parent : (o : Option (Bor PlainLayer)) (parent : Option ℕ) → IfSome o (λ p. (parent ≡ Some p.now.number) × StandsIn history p.now) → IfNone o (parent ≡ None)

@@ -14,7 +14,9 @@ pub mod LookupLaws
 pub mod NetLaws
 pub mod OneLayer
 pub mod OrderLaws
+pub mod PlaceLaws
 pub mod PlainLaws
 pub mod Rows
 pub mod RuleLaws
 pub mod SectionLaws
+pub mod TotalsLaws

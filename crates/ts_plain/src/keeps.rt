@@ -1,6 +1,11 @@
 // Whether a layer keeps to its place above others.
-ghost use Rattle.std.specs.Prelude.{◌↔◌, ◌∷◌, [], ◌++◌, IsTrue};
-ghost use Rattle.ts_plain.specs.History.{AreHistory};
+ghost use Rattle.std.specs.Prelude.{◌≡◌, ◌↔◌, ◌∷◌, [], ◌++◌, false, map, All, IfSome, IsTrue};
+ghost use Rattle.std.specs.FinMap.{contains_key};
+ghost use Rattle.std.specs.List.Sorted.{IsStrictlySortedBy};
+ghost use Rattle.std.specs.Ordering.{nat_cmp};
+ghost use Rattle.ts_model.specs.History.{content_at_parent};
+ghost use Rattle.ts_model.specs.Sets.{contains};
+ghost use Rattle.ts_plain.specs.History.{AreHistory, history_of};
 ghost use Rattle.ts_plain.specs.PlainRules.{IsPlainLayer};
 
 use crate::chain::layer_at;
@@ -22,7 +27,10 @@ pub fn keeps_to_place(layers: &[PlainLayer], layer: &PlainLayer) -> bool
 }
 
 /// Whether a number is above those of all layers.
-fn is_above(layers: &[PlainLayer], number: u32) -> bool {
+fn is_above(layers: &[PlainLayer], number: u32) -> bool
+    requires { AreHistory layers.now }
+    ensures { IsTrue result ↔ IsStrictlySortedBy nat_cmp (map (λ layer. layer.number) layers.now ++ number ∷ []) }
+{
     match layers.last() {
         Some(last) => last.number < number,
         None => true,
@@ -32,6 +40,7 @@ fn is_above(layers: &[PlainLayer], number: u32) -> bool {
 /// Whether a layer's parent stands, where it has one.
 fn parent_stands(layers: &[PlainLayer], parent: Option<u32>) -> bool
     requires { AreHistory layers.now }
+    ensures { IsTrue result ↔ IfSome parent (λ k. IsTrue (contains_key (history_of layers.now) k)) }
 {
     match parent {
         Some(number) => layer_at(layers, number).is_some(),
@@ -42,6 +51,8 @@ fn parent_stands(layers: &[PlainLayer], parent: Option<u32>) -> bool
 /// Whether a parent has all of the triples.
 fn has_all(layers: &[PlainLayer], parent: Option<u32>, triples: &[Triple]) -> bool
     requires { AreHistory layers.now }
+    ensures { IsTrue result ↔ All (λ triple.
+        IsTrue (contains (content_at_parent (history_of layers.now) parent) triple)) triples.now }
 {
     for triple in triples {
         if !parent_holds(layers, parent, triple) {
@@ -54,6 +65,8 @@ fn has_all(layers: &[PlainLayer], parent: Option<u32>, triples: &[Triple]) -> bo
 /// Whether a parent has none of the triples.
 fn has_none(layers: &[PlainLayer], parent: Option<u32>, triples: &[Triple]) -> bool
     requires { AreHistory layers.now }
+    ensures { IsTrue result ↔ All (λ triple.
+        contains (content_at_parent (history_of layers.now) parent) triple ≡ false) triples.now }
 {
     for triple in triples {
         if parent_holds(layers, parent, triple) {

@@ -51,7 +51,7 @@ fn is_among(triples: &[Triple], triple: &Triple) -> bool
     ensures { result ≡ list_any (eq_by_cmp triple_cmp triple.now) triples.now }
 {
     match triples.binary_search(triple) {
-        Ok(_place) => true,
-        Err(_place) => false,
+        Ok(_) => true,
+        Err(_) => false,
     }
 }

@@ -7,7 +7,7 @@ use Rattle.ts_plain.proofs.totals.totals_after.Given as goal
 
 abbrev pub invariant-loop-next : goal.invariant-loop-next
 invariant-loop-next l = record {
-  same : map (λ triple. triple.now) l.triples.items ++ added_from (history_of l.layers) (number_of l.next) ≡ l.additions ++ added_from (history_of l.layers) l.parent;
+  same : map (λ triple. triple.now) l.triples.items ++ added_from (history_of l.layers) (number_of l.next) ≡ l.additions ++ added_from (history_of l.layers) l.fn.parent;
   next : IfSome l.next (λ layer. StandsIn (history_of l.layers) layer.now);
 }
 

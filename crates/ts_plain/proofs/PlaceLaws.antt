@@ -1,0 +1,139 @@
+-- When layers with one more at their end are a history.
+use Rattle.std.proofs.Common.{◌≡◌, ◌↔◌, ℕ, ◌<◌, ◌≤◌, ◌^◌, Bool, true, false, cond, List, [], ◌∷◌, ◌++◌, map, Option, Some, None, All, IfSome, IsTrue, refl, sym, ap, ◌∙◌, subst, true≢false, arith}
+use Rattle.std.specs.Option.{is_some}
+use Rattle.std.specs.declared.cmp.Ordering.TheVariants.{Less}
+use Rattle.std.specs.Ordering.{nat_cmp, eq_by_cmp}
+use Rattle.std.specs.Cmp.{nat_cmp_total, Equal-is, ranked}
+use Rattle.std.specs.List.{AllByRecursion}
+use Rattle.std.specs.List.Sorted.{IsStrictlySortedBy}
+use Rattle.std.specs.FinMap.{empty, find, get, insert, contains_key, from_entries, from_entries_push, get-from_entries, nat_cmp-IsAntisymmetric}
+use Rattle.std.proofs.lemmas.List.{map-append}
+use Rattle.std.proofs.lemmas.List.Elements.{All-push, All-weaker}
+use Rattle.ts_model.specs.declared.signed.SignedTriple.{SignedTriple}
+use Rattle.ts_model.specs.TextTriple.{TextTriple, IsTriple}
+use Rattle.ts_model.specs.Order.{triple_cmp, triple_cmp_total, triple_cmp-IsAntisymmetric}
+use Rattle.ts_model.specs.Sets.{SetOf, contains, members, from_list}
+use Rattle.ts_model.specs.History.{History, IsWellKept, content_at_parent}
+use Rattle.ts_model.specs.NetChange.{net_additions, net_removals}
+use Rattle.ts_model.proofs.SetLaws.{contains-from_list, contains-members}
+use Rattle.ts_plain.specs.declared.write.PlainLayer.{PlainLayer}
+use Rattle.ts_plain.specs.PlainRules.{IsPlainLayer, FitsParent}
+use Rattle.ts_plain.specs.History.{record_of, entry_of, history_of, LayerKeepsRules, AreHistory}
+use Rattle.ts_plain.specs.NewLayer.{IsNewNumber}
+use Rattle.ts_plain.proofs.AmongLaws.{among_has, all_among}
+use Rattle.ts_plain.proofs.GrowthLaws.{ParentStands, get-new, below_new, parent_stood, IsWellKept-grown}
+use Rattle.ts_plain.proofs.LayerLaws.{is_among}
+use Rattle.ts_plain.proofs.NetLaws.{addition_is_new, removal_is_there}
+use Rattle.ts_plain.proofs.OrderLaws.{above_last}
+
+abbrev pub numbers : List PlainLayer → List ℕ
+numbers layers = map (λ layer. layer.number) layers
+
+-- the number is above those of the layers
+abbrev pub IsAbove : List PlainLayer → ℕ → Type 0
+IsAbove layers number = IsStrictlySortedBy nat_cmp (numbers layers ++ number ∷ [])
+
+-- the parent has all of these, or none of them
+abbrev pub HasAll : History → Option ℕ → List TextTriple → Type 0
+HasAll history parent triples = All (λ triple. IsTrue (contains (content_at_parent history parent) triple)) triples
+
+abbrev pub HasNone : History → Option ℕ → List TextTriple → Type 0
+HasNone history parent triples = All (λ triple. contains (content_at_parent history parent) triple ≡ false) triples
+
+all_below : (xs : List ℕ) (y : ℕ) → IsStrictlySortedBy nat_cmp (xs ++ y ∷ []) → AllByRecursion (λ x. x < y) xs
+unfolding IsStrictlySortedBy
+all_below [] y h = tt
+all_below (x ∷ xs) y h = (ranked x y Less (sym (above_last nat_cmp x y xs [] h.0)), all_below xs y h.1)
+
+found_below : (layers : List PlainLayer) (k y : ℕ) → AllByRecursion (λ x. x < y) (numbers layers) → is_some (find nat_cmp k (map entry_of layers)) ≡ true → k < y
+found_below [] k y all is = absurd (true≢false (sym is))
+found_below (layer ∷ layers) k y all is =
+    elim (eq_by_cmp nat_cmp k layer.number) as (λ b. eq_by_cmp nat_cmp k layer.number ≡ b → is_some (cond b (Some (record_of layer)) (find nat_cmp k (map entry_of layers))) ≡ true → k < y) [
+      | true ↦ λ e _. let same : k ≡ layer.number = nat_cmp-IsAntisymmetric k layer.number ((Equal-is (nat_cmp k layer.number)).0 e) in subst (λ n. n < y) (sym same) all.0
+      | false ↦ λ e later. found_below layers k y all.1 later
+    ] refl is
+
+pub IsNewNumber-above : (layers : List PlainLayer) (number : ℕ) → 1 ≤ number → IsAbove layers number → IsNewNumber (history_of layers) number
+IsNewNumber-above layers number positive above = record {
+  positive = positive;
+  above = λ k stands. found_below layers k number (all_below (numbers layers) number above) (sym (ap is_some (get-from_entries nat_cmp_total (map entry_of layers) k)) ∙ stands);
+}
+
+none_found : (layers : List PlainLayer) (number : ℕ) → IsAbove layers number → find nat_cmp number (map entry_of layers) ≡ None
+none_found layers number above = missing (find nat_cmp number (map entry_of layers)) (λ is.
+    let below : number < number = found_below layers number number (all_below (numbers layers) number above) is in omega arith)
+  where
+    missing : {X : Type 0} (o : Option X) → (is_some o ≡ true → ⊥) → o ≡ None
+    missing None h = refl
+    missing (Some x) h = absurd (h refl)
+
+-- the history of the layers with one more
+pub history_of-push : (layers : List PlainLayer) (layer : PlainLayer) → IsAbove layers layer.number → history_of (layers ++ layer ∷ []) ≡ insert (history_of layers) layer.number (record_of layer)
+history_of-push layers layer above =
+    ap from_entries (map-append entry_of layers (layer ∷ []))
+    ∙ from_entries_push nat_cmp_total nat_cmp-IsAntisymmetric (map entry_of layers) layer.number (record_of layer) (none_found layers layer.number above)
+
+numbers-push : (layers : List PlainLayer) (layer : PlainLayer) → numbers (layers ++ layer ∷ []) ≡ numbers layers ++ layer.number ∷ []
+numbers-push layers layer = map-append (λ (layer : PlainLayer). layer.number) layers (layer ∷ [])
+
+made : (triples : List TextTriple) (q : TextTriple) → contains (from_list {R = triple_cmp} triples) q ≡ is_among triples q
+made triples q = contains-from_list triple_cmp triple_cmp_total triples q
+
+module _ (layers : List PlainLayer) (history : AreHistory layers) (layer : PlainLayer)
+    (rules : LayerKeepsRules layer) where
+  -- a layer that is kept over its parent makes a longer history
+  pub AreHistory-push : layer.number < 2 ^ 32 → All IsTriple layer.additions.items → IsAbove layers layer.number → ParentStands (history_of layers) layer.parent
+      → HasAll (history_of layers) layer.parent layer.removals.items → HasNone (history_of layers) layer.parent layer.additions.items → AreHistory (layers ++ layer ∷ [])
+  AreHistory-push fits triples above stands removed added = record {
+    numbers_rise = subst (IsStrictlySortedBy nat_cmp) (sym (numbers-push layers layer)) above;
+    rules = All-push LayerKeepsRules layers layer history.rules rules;
+    well_kept = subst IsWellKept (sym (history_of-push layers layer above))
+        (IsWellKept-grown (history_of layers) history.well_kept layer.number (IsNewNumber-above layers layer.number rules.numbered above) (record_of layer) stands fits
+        (λ q is. among_has IsTriple layer.additions.items q triples (sym (made layer.additions.items q) ∙ is))
+        (λ none. ap from_list (no_removals layer.parent rules.parent_fits none))
+        (λ q is. among_has (λ q. IsTrue (contains (content_at_parent (history_of layers) layer.parent) q)) layer.removals.items q removed (sym (made layer.removals.items q) ∙ is))
+        (λ q is. among_has (λ q. contains (content_at_parent (history_of layers) layer.parent) q ≡ false) layer.additions.items q added (sym (made layer.additions.items q) ∙ is)));
+  }
+    where
+      no_removals : (o : Option ℕ) → FitsParent layer.number o layer.removals.items → o ≡ None → layer.removals.items ≡ []
+      no_removals None fits e = fits
+      no_removals (Some p) fits e = let none : ⊥ = cc in absurd none
+
+  module _ (longer : AreHistory (layers ++ layer ∷ [])) where
+    pub is_above : IsAbove layers layer.number
+    is_above = subst (IsStrictlySortedBy nat_cmp) (numbers-push layers layer) longer.numbers_rise
+
+    well_kept : IsWellKept (insert (history_of layers) layer.number (record_of layer))
+    well_kept = subst IsWellKept (history_of-push layers layer is_above) longer.well_kept
+
+    new : IsNewNumber (history_of layers) layer.number
+    new = IsNewNumber-above layers layer.number rules.numbered is_above
+
+    -- its parent stood
+    pub parent_stands : ParentStands (history_of layers) layer.parent
+    parent_stands = parent_stood (history_of layers) history.well_kept layer.number new (record_of layer) well_kept
+
+    pub has_removals : HasAll (history_of layers) layer.parent layer.removals.items
+    has_removals = all_among (λ q. IsTrue (contains (content_at_parent (history_of layers) layer.parent) q)) layer.removals.items (λ q is.
+        ap (λ set. contains set q) (sym (below_new (history_of layers) history.well_kept layer.number new (record_of layer) parent_stands))
+        ∙ (well_kept layer.number (record_of layer) (get-new (history_of layers) history.well_kept layer.number new (record_of layer))).removed q (made layer.removals.items q ∙ is))
+
+    pub lacks_additions : HasNone (history_of layers) layer.parent layer.additions.items
+    lacks_additions = all_among (λ q. contains (content_at_parent (history_of layers) layer.parent) q ≡ false) layer.additions.items (λ q is.
+        ap (λ set. contains set q) (sym (below_new (history_of layers) history.well_kept layer.number new (record_of layer) parent_stands))
+        ∙ (well_kept layer.number (record_of layer) (get-new (history_of layers) history.well_kept layer.number new (record_of layer))).added q (made layer.additions.items q ∙ is))
+
+-- ---- the net change of a body
+
+module _ (history : History) (parent : Option ℕ) (body : List SignedTriple) (additions removals : List TextTriple)
+    (additions_are : additions ≡ members (net_additions (content_at_parent history parent) body))
+    (removals_are : removals ≡ members (net_removals (content_at_parent history parent) body)) where
+  pub HasAll-net_removals : HasAll history parent removals
+  HasAll-net_removals = all_among (λ q. IsTrue (contains (content_at_parent history parent) q)) removals (λ q is.
+      removal_is_there (content_at_parent history parent) body q
+      (contains-members triple_cmp (net_removals (content_at_parent history parent) body) q ∙ ap (λ l. is_among l q) (sym removals_are) ∙ is))
+
+  pub HasNone-net_additions : HasNone history parent additions
+  HasNone-net_additions = all_among (λ q. contains (content_at_parent history parent) q ≡ false) additions (λ q is.
+      addition_is_new (content_at_parent history parent) body q
+      (contains-members triple_cmp (net_additions (content_at_parent history parent) body) q ∙ ap (λ l. is_among l q) (sym additions_are) ∙ is))
