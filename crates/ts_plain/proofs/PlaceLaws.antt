@@ -1,13 +1,14 @@
 -- When layers with one more at their end are a history.
-use Rattle.std.proofs.Common.{◌≡◌, ◌↔◌, ℕ, ◌<◌, ◌≤◌, ◌^◌, Bool, true, false, cond, List, [], ◌∷◌, ◌++◌, map, Option, Some, None, All, IfSome, IsTrue, refl, sym, ap, ◌∙◌, subst, true≢false, arith}
+use Rattle.std.proofs.Common.{◌≡◌, ◌↔◌, ℕ, ◌+◌, ◌-◌, ◌<◌, ◌≤◌, ◌^◌, nat_lt, length, get_or, Bool, true, false, cond, List, [], ◌∷◌, ◌++◌, map, Option, Some, None, All, IfSome, IsTrue, refl, sym, ap, ◌∙◌, subst, true≢false, arith}
 use Rattle.std.specs.Option.{is_some}
 use Rattle.std.specs.declared.cmp.Ordering.TheVariants.{Less}
 use Rattle.std.specs.Ordering.{nat_cmp, eq_by_cmp}
-use Rattle.std.specs.Cmp.{nat_cmp_total, Equal-is, ranked}
+use Rattle.std.specs.Cmp.{nat_cmp_total, nat_cmp_is, Equal-is, ranked}
 use Rattle.std.specs.List.{AllByRecursion}
 use Rattle.std.specs.List.Sorted.{IsStrictlySortedBy}
 use Rattle.std.specs.FinMap.{empty, find, get, insert, contains_key, from_entries, from_entries_push, get-from_entries, nat_cmp-IsAntisymmetric}
-use Rattle.std.proofs.lemmas.List.{map-append}
+use Rattle.std.proofs.lemmas.List.{map-append, length-map, get_or-map}
+use Rattle.std.proofs.lemmas.Bool.Decides.{nat_tests}
 use Rattle.std.proofs.lemmas.List.Elements.{All-push, All-weaker}
 use Rattle.ts_model.specs.declared.signed.SignedTriple.{SignedTriple}
 use Rattle.ts_model.specs.TextTriple.{TextTriple, IsTriple}
@@ -24,7 +25,7 @@ use Rattle.ts_plain.proofs.AmongLaws.{among_has, all_among}
 use Rattle.ts_plain.proofs.GrowthLaws.{ParentStands, get-new, below_new, parent_stood, IsWellKept-grown}
 use Rattle.ts_plain.proofs.LayerLaws.{is_among}
 use Rattle.ts_plain.proofs.NetLaws.{addition_is_new, removal_is_there}
-use Rattle.ts_plain.proofs.OrderLaws.{above_last}
+use Rattle.ts_plain.proofs.OrderLaws.{above_last, last_below, rises_alone, rises_more}
 
 abbrev pub numbers : List PlainLayer → List ℕ
 numbers layers = map (λ layer. layer.number) layers
@@ -39,6 +40,34 @@ HasAll history parent triples = All (λ triple. IsTrue (contains (content_at_par
 
 abbrev pub HasNone : History → Option ℕ → List TextTriple → Type 0
 HasNone history parent triples = All (λ triple. contains (content_at_parent history parent) triple ≡ false) triples
+
+-- ---- above the last of rising numbers
+
+pub lt_true : (a b : ℕ) → a < b → nat_lt a b ≡ true
+lt_true a b h = grind (arith, nat_tests)
+
+pub true_lt : (a b : ℕ) → nat_lt a b ≡ true → a < b
+true_lt a b h = grind (arith, nat_tests)
+
+module _ (layers : List PlainLayer) (last : PlainLayer) (number : ℕ) (some : 0 < length layers) (is : last ≡ get_or layers (length layers - 1) last) where
+  whole : length layers - 1 + 1 ≡ length (numbers layers)
+  whole = omega (arith, length-map layers (λ (layer : PlainLayer). layer.number))
+
+  last_number : get_or (numbers layers) (length layers - 1) 0 ≡ last.number
+  last_number = get_or-map (λ (layer : PlainLayer). layer.number) layers (length layers - 1) last 0 (omega arith) ∙ ap (λ (layer : PlainLayer). layer.number) (sym is)
+
+  pub above_the_last : IsStrictlySortedBy nat_cmp (numbers layers) → last.number < number → IsAbove layers number
+  above_the_last rise below =
+      rises_more nat_cmp nat_cmp_total (numbers layers) (length layers - 1) number 0 whole rise
+      (ap (λ n. nat_cmp n number) last_number ∙ sym (nat_cmp_is last.number number Less below))
+
+  pub last_is_below : IsAbove layers number → last.number < number
+  last_is_below above =
+      ranked last.number number Less (sym (ap (λ n. nat_cmp n number) (sym last_number) ∙ last_below nat_cmp (numbers layers) (length layers - 1) number 0 whole above))
+
+-- any number is above those of no layers
+pub above_none : (layers : List PlainLayer) (number : ℕ) → layers ≡ [] → IsAbove layers number
+above_none layers number none = subst (λ l. IsAbove l number) (sym none) (rises_alone nat_cmp number)
 
 all_below : (xs : List ℕ) (y : ℕ) → IsStrictlySortedBy nat_cmp (xs ++ y ∷ []) → AllByRecursion (λ x. x < y) xs
 unfolding IsStrictlySortedBy

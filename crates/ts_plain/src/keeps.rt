@@ -1,5 +1,5 @@
 // Whether a layer keeps to its place above others.
-ghost use Rattle.std.specs.Prelude.{◌≡◌, ◌↔◌, ◌∷◌, [], ◌++◌, false, map, All, IfSome, IsTrue};
+ghost use Rattle.std.specs.Prelude.{◌≡◌, ◌<◌, ◌^◌, ◌↔◌, ◌∷◌, [], ◌++◌, false, map, All, IfSome, IsTrue};
 ghost use Rattle.std.specs.FinMap.{contains_key};
 ghost use Rattle.std.specs.List.Sorted.{IsStrictlySortedBy};
 ghost use Rattle.std.specs.Ordering.{nat_cmp};
@@ -20,16 +20,23 @@ pub fn keeps_to_place(layers: &[PlainLayer], layer: &PlainLayer) -> bool
     requires plain { IsPlainLayer layer.now.number layer.now.parent layer.now.additions.items layer.now.removals.items }
     ensures { IsTrue result ↔ AreHistory (layers.now ++ layer.now ∷ []) }
 {
-    is_above(layers, layer.number)
-        && parent_stands(layers, layer.parent)
-        && has_all(layers, layer.parent, layer.removals.as_slice())
-        && has_none(layers, layer.parent, layer.additions.as_slice())
+    if !is_above(layers, layer.number) {
+        return false;
+    }
+    if !parent_stands(layers, layer.parent) {
+        return false;
+    }
+    if !has_all(layers, layer.parent, layer.removals.as_slice()) {
+        return false;
+    }
+    has_none(layers, layer.parent, layer.additions.as_slice())
 }
 
 /// Whether a number is above those of all layers.
 fn is_above(layers: &[PlainLayer], number: u32) -> bool
     requires { AreHistory layers.now }
-    ensures { IsTrue result ↔ IsStrictlySortedBy nat_cmp (map (λ layer. layer.number) layers.now ++ number ∷ []) }
+    ensures above { IsTrue result ↔ IsStrictlySortedBy nat_cmp (map (λ layer. layer.number) layers.now ++ number ∷ []) }
+    ensures fits { number < 2 ^ 32 }
 {
     match layers.last() {
         Some(last) => last.number < number,
