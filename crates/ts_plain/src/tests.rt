@@ -189,19 +189,27 @@ fn bodies_change_what_is_left_to_change(rt: HostRuntime) -> Result<(), Fail> {
     Ok(())
 }
 
-/// A second layer with a removal that the parent lacks, an addition that it has, a parent that doesn't stand, and the
-/// number of the first.
+/// Whether the second file is that of a layer which keeps to its place above the first.
+fn keeps(alloc: Global, base: &str, file: &str) -> Result<bool, Fail> {
+    let layers = history(alloc, &[base])?;
+    let layer = read_plain(alloc, file.as_bytes(), number_in(file)?)?;
+    Ok(keeps_to_place(layers.as_slice(), &layer))
+}
+
+/// A child, and then a removal that the parent lacks, an addition that it has, a parent that doesn't stand, and the number
+/// of the base.
 #[test]
-fn layers_out_of_place_are_refused(rt: HostRuntime) -> Result<(), Fail> {
+fn layers_keep_to_their_places(rt: HostRuntime) -> Result<(), Fail> {
     let alloc = rt.alloc();
     let base = "plain 00000001 none\n+ <a> <p> <b> .\n";
-    for file in [
-        "plain 00000002 00000001\n- <c> <p> <b> .\n",
-        "plain 00000002 00000001\n+ <a> <p> <b> .\n",
-        "plain 00000003 00000002\n",
-        "plain 00000001 none\n",
+    for (file, wanted) in [
+        ("plain 00000002 00000001\n+ <c> <p> <b> .\n- <a> <p> <b> .\n", true),
+        ("plain 00000002 00000001\n- <c> <p> <b> .\n", false),
+        ("plain 00000002 00000001\n+ <a> <p> <b> .\n", false),
+        ("plain 00000003 00000002\n", false),
+        ("plain 00000001 none\n", false),
     ] {
-        assert!(rt; history(alloc, &[base, file]).is_err(), "{file}");
+        assert_eq!(rt; keeps(alloc, base, file)?, wanted, "{file}");
     }
     Ok(())
 }
