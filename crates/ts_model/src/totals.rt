@@ -28,10 +28,7 @@ pub fn totals_of(alloc: Global, triples: &[&Triple]) -> Result<Totals, AllocErro
     })
 }
 
-fn nodes_and_values<'a>(
-    alloc: Global,
-    triples: &[&'a Triple],
-) -> Result<Vec<&'a Term>, AllocError>
+fn nodes_and_values<'a>(alloc: Global, triples: &[&'a Triple]) -> Result<Vec<&'a Term>, AllocError>
     ensures { IfOk result (λ terms. map (λ term. term.now) terms.items
         ≡ flat_map (λ triple. triple.now.subject ∷ triple.now.object ∷ []) triples.now) }
 {

@@ -1,7 +1,7 @@
 -- The content of a layer, from its own changes and its parent's content.
-use Rattle.std.proofs.Common.{◌≡◌, ℕ, zero, suc, ◌<◌, Bool, true, false, not, ◌&&◌, ◌||◌, List, [], ◌∷◌, Option, Some, None, IfSome, IfNone, IsTrue, refl, sym, ap, ◌∙◌, subst}
+use Rattle.std.proofs.Common.{◌≡◌, ℕ, zero, suc, ◌<◌, Bool, true, false, not, ◌&&◌, ◌||◌, List, ◌∷◌, Option, Some, None, IfSome, IfNone, IsTrue, refl, sym, ap, ◌∙◌, subst}
 use Rattle.std.specs.Option.{option_map, option_and_then}
-use Rattle.std.specs.FinMap.{empty, get, contains_key}
+use Rattle.std.specs.FinMap.{get, contains_key}
 use denote.Ref.{Bor}
 use Rattle.ts_model.specs.TextTriple.{TextTriple}
 use Rattle.ts_model.specs.Order.{triple_cmp, triple_cmp_total, triple_cmp-IsAntisymmetric}
@@ -69,7 +69,7 @@ module _ (history : History) where
             ap (λ set. contains set q) (over k p (chain_from history stands.0.parent) (chain_of history p) (chain_of-parent history kept p stands.0 stands.1))
             ∙ contains-union triple_cmp triple_cmp_total (difference (content_at history p) (removals_at history k)) (additions_at history k) q
             ∙ ap (λ b. b || contains (additions_at history k) q)
-              (contains-difference triple_cmp triple_cmp_total triple_cmp-IsAntisymmetric (content_at history p) (removals_at history k) q)
+            (contains-difference triple_cmp triple_cmp_total triple_cmp-IsAntisymmetric (content_at history p) (removals_at history k) q)
 
     module _ (layer : PlainLayer) (stands : StandsIn history layer) (q : TextTriple) where
       pub contains-layer : contains (content_at history layer.number) q
@@ -77,7 +77,7 @@ module _ (history : History) where
       contains-layer =
           contains-content_at layer.number (record_of layer) stands.recorded q
           ∙ (λ i. (contains (content_at_parent history layer.parent) q && not (contains-from_list triple_cmp triple_cmp_total layer.removals.items q i))
-              || contains-from_list triple_cmp triple_cmp_total layer.additions.items q i)
+          || contains-from_list triple_cmp triple_cmp_total layer.additions.items q i)
 
       pub added_here : is_among layer.additions.items q ≡ true → contains (content_at history layer.number) q ≡ true
       added_here here = contains-layer ∙ ap (λ b. (contains (content_at_parent history layer.parent) q && not (is_among layer.removals.items q)) || b) here ∙ or_true _

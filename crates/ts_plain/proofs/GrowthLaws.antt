@@ -1,14 +1,13 @@
 -- A history with one layer more, under a number above all others.
-use Rattle.std.proofs.Common.{◌≡◌, ◌≢◌, ◌↔◌, ℕ, zero, suc, ◌+◌, ◌<◌, ◌≤◌, ◌^◌, true, false, cond, List, [], ◌∷◌, ◌++◌, map, flat_map, Option, Some, None, IfSome, IsTrue, refl, sym, ap, ◌∙◌, subst, true≢false, arith}
+use Rattle.std.proofs.Common.{◌≡◌, ℕ, zero, suc, ◌<◌, ◌≤◌, ◌^◌, true, false, cond, List, [], ◌∷◌, ◌++◌, flat_map, Option, Some, None, IfSome, IsTrue, refl, sym, ap, ◌∙◌, subst, arith}
 use Rattle.std.specs.Option.{is_some, option_map, option_and_then}
 use Rattle.std.specs.Ordering.{nat_cmp, eq_by_cmp, is_eq}
 use Rattle.std.specs.Cmp.{nat_cmp_total, tied_itself, Equal-is}
 use Rattle.std.specs.List.{AllByRecursion}
 use Rattle.std.specs.FinMap.{empty, get, insert, contains_key, get-insert, nat_cmp-IsAntisymmetric}
 use Rattle.ts_model.specs.TextTriple.{TextTriple, IsTriple}
-use Rattle.ts_model.specs.Order.{triple_cmp}
 use Rattle.ts_model.specs.Sets.{contains, members, union, difference}
-use Rattle.ts_model.specs.History.{LayerRecord, History, IsWellKept, IsLayerKept, parent_at, additions_at, removals_at, set_or_none, chain_of, chain_within, content_of, content_at, content_at_parent, content_below}
+use Rattle.ts_model.specs.History.{LayerRecord, History, IsWellKept, IsLayerKept, parent_at, additions_at, removals_at, set_or_none, chain_within, content_of, content_at_parent, content_below}
 use Rattle.ts_model.specs.ChainTotals.{added_along}
 use Rattle.ts_model.proofs.HistoryLaws.{chain_from, chain_within-none, Found, found, same_within}
 use Rattle.ts_plain.specs.NewLayer.{IsNewNumber}
@@ -147,61 +146,62 @@ module _ (history : History) (kept : IsWellKept history) where
               ∙ ap (λ c. members layer.additions ++ flat_map (λ j. members (additions_at grown j)) c) (chain_below m (omega arith))
               ∙ ap (λ c. members layer.additions ++ c) (same_added (chain_from history layer.parent) all_stand)
 
-      -- the new history is well kept where the new layer is kept over its parent
-      pub IsWellKept-grown : n < 2 ^ 32
+      -- the new layer is kept where it is kept over its parent
+      pub IsLayerKept-new : n < 2 ^ 32
           → ((triple : TextTriple) → IsTrue (contains layer.additions triple) → IsTriple triple)
           → (layer.parent ≡ None → layer.removals ≡ empty)
           → ((triple : TextTriple) → IsTrue (contains layer.removals triple) → IsTrue (contains (content_at_parent history layer.parent) triple))
           → ((triple : TextTriple) → IsTrue (contains layer.additions triple) → contains (content_at_parent history layer.parent) triple ≡ false)
-          → IsWellKept grown
-      IsWellKept-grown fits triples base removed added k record_of_k is =
-          elim (eq_by_cmp nat_cmp k n) as (λ b. eq_by_cmp nat_cmp k n ≡ b → IsLayerKept grown k record_of_k) [
-            | true ↦ λ e.
-                let same : k ≡ n = nat_cmp-IsAntisymmetric k n ((Equal-is (nat_cmp k n)).0 e) in
-                let here : record_of_k ≡ layer = some_same (sym is ∙ ap (get grown) same ∙ get-new) in
-                subst (λ k. IsLayerKept grown k record_of_k) (sym same) (subst (IsLayerKept grown n) (sym here) new_kept)
-            | false ↦ λ e.
-                let old : get history k ≡ Some record_of_k = sym (get-insert nat_cmp_total history n layer k ∙ ap (λ b. cond b (Some layer) (get history k)) e) ∙ is in
-                let stood : StandsAt history k = ap is_some old in
-                let was = kept k record_of_k old in
-                record {
-                  number = was.number;
-                  triples = was.triples;
-                  parent = old_parent k record_of_k.parent was.parent;
-                  base = was.base;
-                  removed = λ q h. ap (λ set. contains set q) (same_below k stood) ∙ was.removed q h;
-                  added = λ q h. ap (λ set. contains set q) (same_below k stood) ∙ was.added q h;
-                }
-          ] refl
+          → IsLayerKept grown n layer
+      IsLayerKept-new fits triples base removed added = record {
+        number = (new.positive, fits);
+        triples = triples;
+        parent = new_parent layer.parent stands;
+        base = base;
+        removed = λ q h. ap (λ set. contains set q) below_new ∙ removed q h;
+        added = λ q h. ap (λ set. contains set q) below_new ∙ added q h;
+      }
         where
-          some_same : {x y : LayerRecord} → Some x ≡ Some y → x ≡ y
-          some_same {x} {y} e = ap (λ o. cond (is_some o) (value o) x) e
-            where
-              value : Option LayerRecord → LayerRecord
-              value None = x
-              value (Some z) = z
-
-          old_parent : (k : ℕ) (o : Option ℕ) → IfSome o (λ p. (p < k) × StandsAt history p) → IfSome o (λ p. (p < k) × StandsAt grown p)
-          old_parent k None h = tt
-          old_parent k (Some p) h = (h.0, stands_still p h.1)
-
           new_parent : (o : Option ℕ) → ParentStands history o → IfSome o (λ p. (p < n) × StandsAt grown p)
           new_parent None h = tt
           new_parent (Some p) h = (new.above p h, stands_still p h)
 
-          new_kept : IsLayerKept grown n layer
-          new_kept = record {
-            number = (new.positive, fits);
-            triples = triples;
-            parent = new_parent layer.parent stands;
-            base = base;
-            removed = λ q h. ap (λ set. contains set q) below_new ∙ removed q h;
-            added = λ q h. ap (λ set. contains set q) below_new ∙ added q h;
-          }
+    -- the other layers are kept as they were, so the new history is well kept where the new layer is kept
+    pub IsWellKept-grown : IsLayerKept grown n layer → IsWellKept grown
+    IsWellKept-grown new_kept k record_of_k is =
+        elim (eq_by_cmp nat_cmp k n) as (λ b. eq_by_cmp nat_cmp k n ≡ b → IsLayerKept grown k record_of_k) [
+          | true ↦ λ e.
+              let same : k ≡ n = nat_cmp-IsAntisymmetric k n ((Equal-is (nat_cmp k n)).0 e) in
+              let here : record_of_k ≡ layer = some_same (sym is ∙ ap (get grown) same ∙ get-new) in
+              subst (λ k. IsLayerKept grown k record_of_k) (sym same) (subst (IsLayerKept grown n) (sym here) new_kept)
+          | false ↦ λ e.
+              let old : get history k ≡ Some record_of_k = sym (get-insert nat_cmp_total history n layer k ∙ ap (λ b. cond b (Some layer) (get history k)) e) ∙ is in
+              let stood : StandsAt history k = ap is_some old in
+              let was = kept k record_of_k old in
+              record {
+                number = was.number;
+                triples = was.triples;
+                parent = old_parent k record_of_k.parent was.parent;
+                base = was.base;
+                removed = λ q h. ap (λ set. contains set q) (same_below k stood) ∙ was.removed q h;
+                added = λ q h. ap (λ set. contains set q) (same_below k stood) ∙ was.added q h;
+              }
+        ] refl
+      where
+        some_same : {x y : LayerRecord} → Some x ≡ Some y → x ≡ y
+        some_same {x} {y} e = ap (λ o. cond (is_some o) (value o) x) e
+          where
+            value : Option LayerRecord → LayerRecord
+            value None = x
+            value (Some z) = z
+
+        old_parent : (k : ℕ) (o : Option ℕ) → IfSome o (λ p. (p < k) × StandsAt history p) → IfSome o (λ p. (p < k) × StandsAt grown p)
+        old_parent k None h = tt
+        old_parent k (Some p) h = (h.0, stands_still p h.1)
 
     -- a parent of the new layer stood before it
-    pub parent_stood : IsWellKept grown → ParentStands history layer.parent
-    parent_stood all = from layer.parent (all n layer get-new).parent
+    pub parent_stood : IsLayerKept grown n layer → ParentStands history layer.parent
+    parent_stood new_kept = from layer.parent new_kept.parent
       where
         from : (o : Option ℕ) → IfSome o (λ p. (p < n) × StandsAt grown p) → ParentStands history o
         from None h = tt

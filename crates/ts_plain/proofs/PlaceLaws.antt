@@ -1,28 +1,29 @@
 -- When layers with one more at their end are a history.
-use Rattle.std.proofs.Common.{◌≡◌, ◌↔◌, ℕ, ◌+◌, ◌-◌, ◌<◌, ◌≤◌, ◌^◌, nat_lt, length, get_or, Bool, true, false, cond, List, [], ◌∷◌, ◌++◌, map, Option, Some, None, All, IfSome, IsTrue, refl, sym, ap, ◌∙◌, subst, true≢false, arith}
+use Rattle.std.proofs.Common.{◌≡◌, ℕ, ◌+◌, ◌-◌, ◌<◌, ◌≤◌, ◌^◌, nat_lt, length, get_or, true, false, cond, List, [], ◌∷◌, ◌++◌, map, Option, Some, None, All, IsTrue, refl, sym, ap, ◌∙◌, subst, true≢false, arith}
 use Rattle.std.specs.Option.{is_some}
 use Rattle.std.specs.declared.cmp.Ordering.TheVariants.{Less}
 use Rattle.std.specs.Ordering.{nat_cmp, eq_by_cmp}
 use Rattle.std.specs.Cmp.{nat_cmp_total, nat_cmp_is, Equal-is, ranked}
 use Rattle.std.specs.List.{AllByRecursion}
 use Rattle.std.specs.List.Sorted.{IsStrictlySortedBy}
-use Rattle.std.specs.FinMap.{empty, find, get, insert, contains_key, from_entries, from_entries_push, get-from_entries, nat_cmp-IsAntisymmetric}
+use Rattle.std.specs.FinMap.{find, insert, from_entries, from_entries_push, get-empty, get-from_entries, nat_cmp-IsAntisymmetric}
 use Rattle.std.proofs.lemmas.List.{map-append, length-map, get_or-map}
 use Rattle.std.proofs.lemmas.Bool.Decides.{nat_tests}
-use Rattle.std.proofs.lemmas.List.Elements.{All-push, All-weaker}
+use Rattle.std.proofs.lemmas.List.Elements.{All-nil, All-push}
 use Rattle.ts_model.specs.declared.signed.SignedTriple.{SignedTriple}
 use Rattle.ts_model.specs.TextTriple.{TextTriple, IsTriple}
-use Rattle.ts_model.specs.Order.{triple_cmp, triple_cmp_total, triple_cmp-IsAntisymmetric}
-use Rattle.ts_model.specs.Sets.{SetOf, contains, members, from_list}
-use Rattle.ts_model.specs.History.{History, IsWellKept, content_at_parent}
+use Rattle.ts_model.specs.Order.{triple_cmp, triple_cmp_total}
+use Rattle.ts_model.specs.Sets.{contains, members, from_list}
+use Rattle.ts_model.specs.History.{History, IsLayerKept, IsWellKept, content_at_parent}
 use Rattle.ts_model.specs.NetChange.{net_additions, net_removals}
 use Rattle.ts_model.proofs.SetLaws.{contains-from_list, contains-members}
+use Rattle.ts_model.proofs.TripleSets.{from_list-members}
 use Rattle.ts_plain.specs.declared.write.PlainLayer.{PlainLayer}
-use Rattle.ts_plain.specs.PlainRules.{IsPlainLayer, FitsParent}
+use Rattle.ts_plain.specs.PlainRules.{FitsParent}
 use Rattle.ts_plain.specs.History.{record_of, entry_of, history_of, LayerKeepsRules, AreHistory}
 use Rattle.ts_plain.specs.NewLayer.{IsNewNumber}
 use Rattle.ts_plain.proofs.AmongLaws.{among_has, all_among}
-use Rattle.ts_plain.proofs.GrowthLaws.{ParentStands, get-new, below_new, parent_stood, IsWellKept-grown}
+use Rattle.ts_plain.proofs.GrowthLaws.{ParentStands, get-new, below_new, parent_stood, IsLayerKept-new, IsWellKept-grown}
 use Rattle.ts_plain.proofs.LayerLaws.{is_among}
 use Rattle.ts_plain.proofs.NetLaws.{addition_is_new, removal_is_there}
 use Rattle.ts_plain.proofs.OrderLaws.{above_last, last_below, rises_alone, rises_more}
@@ -108,21 +109,41 @@ numbers-push layers layer = map-append (λ (layer : PlainLayer). layer.number) l
 made : (triples : List TextTriple) (q : TextTriple) → contains (from_list {R = triple_cmp} triples) q ≡ is_among triples q
 made triples q = contains-from_list triple_cmp triple_cmp_total triples q
 
+-- no layers are a history
+pub AreHistory-none : AreHistory []
+unfolding IsStrictlySortedBy
+AreHistory-none = record {
+  numbers_rise = tt;
+  rules = All-nil LayerKeepsRules;
+  well_kept = λ k layer is. let none : None ≡ Some layer = sym (get-empty nat_cmp k) ∙ is in absurd (true≢false (sym (ap is_some none)));
+}
+
 module _ (layers : List PlainLayer) (history : AreHistory layers) (layer : PlainLayer)
     (rules : LayerKeepsRules layer) where
-  -- a layer that is kept over its parent makes a longer history
-  pub AreHistory-push : layer.number < 2 ^ 32 → All IsTriple layer.additions.items → IsAbove layers layer.number → ParentStands (history_of layers) layer.parent
-      → HasAll (history_of layers) layer.parent layer.removals.items → HasNone (history_of layers) layer.parent layer.additions.items → AreHistory (layers ++ layer ∷ [])
-  AreHistory-push fits triples above stands removed added = record {
+  -- the history with the layer
+  abbrev pub grown : History
+  grown = insert (history_of layers) layer.number (record_of layer)
+
+  new : IsAbove layers layer.number → IsNewNumber (history_of layers) layer.number
+  new above = IsNewNumber-above layers layer.number rules.numbered above
+
+  -- a layer that is kept in it makes a longer history
+  pub AreHistory-with : IsAbove layers layer.number → IsLayerKept grown layer.number (record_of layer) → AreHistory (layers ++ layer ∷ [])
+  AreHistory-with above kept = record {
     numbers_rise = subst (IsStrictlySortedBy nat_cmp) (sym (numbers-push layers layer)) above;
     rules = All-push LayerKeepsRules layers layer history.rules rules;
-    well_kept = subst IsWellKept (sym (history_of-push layers layer above))
-        (IsWellKept-grown (history_of layers) history.well_kept layer.number (IsNewNumber-above layers layer.number rules.numbered above) (record_of layer) stands fits
-        (λ q is. among_has IsTriple layer.additions.items q triples (sym (made layer.additions.items q) ∙ is))
-        (λ none. ap from_list (no_removals layer.parent rules.parent_fits none))
-        (λ q is. among_has (λ q. IsTrue (contains (content_at_parent (history_of layers) layer.parent) q)) layer.removals.items q removed (sym (made layer.removals.items q) ∙ is))
-        (λ q is. among_has (λ q. contains (content_at_parent (history_of layers) layer.parent) q ≡ false) layer.additions.items q added (sym (made layer.additions.items q) ∙ is)));
+    well_kept = subst IsWellKept (sym (history_of-push layers layer above)) (IsWellKept-grown (history_of layers) history.well_kept layer.number (new above) (record_of layer) kept);
   }
+
+  -- and so does one that is kept over its parent
+  pub AreHistory-push : layer.number < 2 ^ 32 → All IsTriple layer.additions.items → IsAbove layers layer.number → ParentStands (history_of layers) layer.parent
+      → HasAll (history_of layers) layer.parent layer.removals.items → HasNone (history_of layers) layer.parent layer.additions.items → AreHistory (layers ++ layer ∷ [])
+  AreHistory-push fits triples above stands removed added =
+      AreHistory-with above (IsLayerKept-new (history_of layers) history.well_kept layer.number (new above) (record_of layer) stands fits
+      (λ q is. among_has IsTriple layer.additions.items q triples (sym (made layer.additions.items q) ∙ is))
+      (λ none. ap from_list (no_removals layer.parent rules.parent_fits none))
+      (λ q is. among_has (λ q. IsTrue (contains (content_at_parent (history_of layers) layer.parent) q)) layer.removals.items q removed (sym (made layer.removals.items q) ∙ is))
+      (λ q is. among_has (λ q. contains (content_at_parent (history_of layers) layer.parent) q ≡ false) layer.additions.items q added (sym (made layer.additions.items q) ∙ is)))
     where
       no_removals : (o : Option ℕ) → FitsParent layer.number o layer.removals.items → o ≡ None → layer.removals.items ≡ []
       no_removals None fits e = fits
@@ -132,25 +153,25 @@ module _ (layers : List PlainLayer) (history : AreHistory layers) (layer : Plain
     pub is_above : IsAbove layers layer.number
     is_above = subst (IsStrictlySortedBy nat_cmp) (numbers-push layers layer) longer.numbers_rise
 
-    well_kept : IsWellKept (insert (history_of layers) layer.number (record_of layer))
-    well_kept = subst IsWellKept (history_of-push layers layer is_above) longer.well_kept
-
-    new : IsNewNumber (history_of layers) layer.number
-    new = IsNewNumber-above layers layer.number rules.numbered is_above
+    -- the last layer of a history is kept
+    pub IsLayerKept-last : IsLayerKept grown layer.number (record_of layer)
+    IsLayerKept-last =
+        subst IsWellKept (history_of-push layers layer is_above) longer.well_kept layer.number (record_of layer)
+        (get-new (history_of layers) history.well_kept layer.number (new is_above) (record_of layer))
 
     -- its parent stood
     pub parent_stands : ParentStands (history_of layers) layer.parent
-    parent_stands = parent_stood (history_of layers) history.well_kept layer.number new (record_of layer) well_kept
+    parent_stands = parent_stood (history_of layers) history.well_kept layer.number (new is_above) (record_of layer) IsLayerKept-last
 
     pub has_removals : HasAll (history_of layers) layer.parent layer.removals.items
     has_removals = all_among (λ q. IsTrue (contains (content_at_parent (history_of layers) layer.parent) q)) layer.removals.items (λ q is.
-        ap (λ set. contains set q) (sym (below_new (history_of layers) history.well_kept layer.number new (record_of layer) parent_stands))
-        ∙ (well_kept layer.number (record_of layer) (get-new (history_of layers) history.well_kept layer.number new (record_of layer))).removed q (made layer.removals.items q ∙ is))
+        ap (λ set. contains set q) (sym (below_new (history_of layers) history.well_kept layer.number (new is_above) (record_of layer) parent_stands))
+        ∙ IsLayerKept-last.removed q (made layer.removals.items q ∙ is))
 
     pub lacks_additions : HasNone (history_of layers) layer.parent layer.additions.items
     lacks_additions = all_among (λ q. contains (content_at_parent (history_of layers) layer.parent) q ≡ false) layer.additions.items (λ q is.
-        ap (λ set. contains set q) (sym (below_new (history_of layers) history.well_kept layer.number new (record_of layer) parent_stands))
-        ∙ (well_kept layer.number (record_of layer) (get-new (history_of layers) history.well_kept layer.number new (record_of layer))).added q (made layer.additions.items q ∙ is))
+        ap (λ set. contains set q) (sym (below_new (history_of layers) history.well_kept layer.number (new is_above) (record_of layer) parent_stands))
+        ∙ IsLayerKept-last.added q (made layer.additions.items q ∙ is))
 
 -- ---- the net change of a body
 
@@ -166,3 +187,13 @@ module _ (history : History) (parent : Option ℕ) (body : List SignedTriple) (a
   HasNone-net_additions = all_among (λ q. contains (content_at_parent history parent) q ≡ false) additions (λ q is.
       addition_is_new (content_at_parent history parent) body q
       (contains-members triple_cmp (net_additions (content_at_parent history parent) body) q ∙ ap (λ l. is_among l q) (sym additions_are) ∙ is))
+
+  -- the record of a layer that is made of it
+  pub record_of-net_change : (layer : PlainLayer) → layer.parent ≡ parent → layer.additions.items ≡ additions → layer.removals.items ≡ removals
+      → record_of layer ≡ record { parent = parent; additions = net_additions (content_at_parent history parent) body; removals = net_removals (content_at_parent history parent) body }
+  record_of-net_change layer parent_is added removed =
+      let adds : from_list {R = triple_cmp} layer.additions.items ≡ net_additions (content_at_parent history parent) body =
+      ap from_list (added ∙ additions_are) ∙ from_list-members (net_additions (content_at_parent history parent) body) in
+      let removes : from_list {R = triple_cmp} layer.removals.items ≡ net_removals (content_at_parent history parent) body =
+      ap from_list (removed ∙ removals_are) ∙ from_list-members (net_removals (content_at_parent history parent) body) in
+      λ i. record { parent = parent_is i; additions = adds i; removals = removes i }

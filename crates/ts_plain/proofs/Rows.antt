@@ -1,23 +1,21 @@
 -- Five layers, on which the definitions of a history are tried. Layer 3 has no changes; 2 and 5 are children of 1, so the
 -- parent of 5 isn't the number before it; `<c>`, which layer 2 leaves without a triple, comes back in layer 4; and one
 -- spelling is a node and a predicate, and stands in a value.
-use Rattle.std.proofs.Common.{◌≡◌, ℕ, suc, Bool, true, false, not, ◌&&◌, ◌||◌, cond, List, [], ◌∷◌, codes, reverse, Option, Some, None, refl, ap, ◌∙◌}
+use Rattle.std.proofs.Common.{◌≡◌, ℕ, Bool, true, false, not, ◌&&◌, ◌||◌, List, [], ◌∷◌, codes, reverse, Option, Some, None, refl, ap, ◌∙◌}
 use Rattle.std.specs.Option.{option_map, option_and_then}
 use Rattle.std.specs.List.{list_any}
 use Rattle.std.specs.List.Sorted.{IsStrictlySortedBy}
 use Rattle.std.specs.Ordering.{nat_cmp}
 use Rattle.std.specs.Cmp.{nat_cmp_total}
-use Rattle.std.specs.FinMap.{empty, find, get, from_entries, get-from_entries}
+use Rattle.std.specs.FinMap.{find, get, from_entries, get-from_entries}
 use Rattle.ts_model.specs.declared.signed.Sign.TheVariants.{Add, Remove}
-use Rattle.ts_model.specs.declared.signed.SignedTriple.{SignedTriple}
-use Rattle.ts_model.specs.declared.term.TermKind.{TermKind}
 use Rattle.ts_model.specs.declared.term.TermKind.TheVariants.{Node, Predicate, Value}
 use Rattle.ts_model.specs.TextTerm.{TextTerm}
 use Rattle.ts_model.specs.TextTriple.{TextTriple}
 use Rattle.ts_model.specs.Order.{triple_cmp, triple_cmp_total, triple_cmp-IsAntisymmetric}
 use Rattle.ts_model.specs.Sets.{SetOf, contains, members, from_list, union, difference}
 use Rattle.ts_model.specs.History.{LayerRecord, History, set_or_none, additions_at, removals_at, chain_within, chain_of, content_of, content_at}
-use Rattle.ts_model.specs.Birth.{is_term, has_term, mentions, first_place, birth_of}
+use Rattle.ts_model.specs.Birth.{has_term, mentions, first_place, birth_of}
 use Rattle.ts_model.specs.NetChange.{last_sign}
 use Rattle.ts_model.proofs.SetLaws.{contains-from_list}
 use Rattle.ts_model.proofs.SetAlgebra.{contains-union, contains-difference, members-from_rising}

@@ -1,11 +1,10 @@
 -- What the layers of a chain add, one layer at a time.
-use Rattle.std.proofs.Common.{◌≡◌, ◌++◌, List, Option, Some, flat_map, ap, ◌∙◌}
+use Rattle.std.proofs.Common.{◌≡◌, ◌++◌, Some, flat_map, ap, ◌∙◌}
 use Rattle.std.specs.Option.{option_map}
-use Rattle.ts_model.specs.TextTriple.{TextTriple}
 use Rattle.ts_model.specs.Order.{triple_cmp, triple_cmp_total, triple_cmp-IsAntisymmetric}
 use Rattle.ts_model.specs.Sets.{members}
 use Rattle.ts_model.specs.History.{LayerRecord, History, IsWellKept, additions_at, set_or_none}
-use Rattle.ts_model.proofs.HistoryLaws.{chain_from, chain_of-parent}
+use Rattle.ts_model.proofs.HistoryLaws.{chain_of-parent}
 use Rattle.ts_model.proofs.SetAlgebra.{members-from_rising}
 use Rattle.ts_plain.specs.declared.write.PlainLayer.{PlainLayer}
 use Rattle.ts_plain.specs.Chain.{StandsIn}

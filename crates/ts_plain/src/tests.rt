@@ -124,7 +124,10 @@ fn told(alloc: Global, files: &[&str]) -> Result<(Vec<u8>, Vec<u8>, Totals), Fai
 #[test]
 fn changes_content_and_totals(rt: HostRuntime) -> Result<(), Fail> {
     let (added, content, totals) = told(rt.alloc(), FILES)?;
-    assert_eq!(rt; added.as_slice(), b"<c> <p> <d> .\n<a> <p> <d> .\n".as_slice());
+    assert_eq!(rt;
+        added.as_slice(),
+        b"<c> <p> <d> .\n<a> <p> <d> .\n".as_slice()
+    );
     let wanted = "<a> <p> <b> .\n<a> <p> <d> .\n<c> <p> <d> .\n<q> <q> \"<q>\" .\n";
     assert_eq!(rt; content.as_slice(), wanted.as_bytes());
     assert_eq!(rt; totals.terms, 6);
@@ -177,10 +180,7 @@ fn bodies_change_what_is_left_to_change(rt: HostRuntime) -> Result<(), Fail> {
     for (text, wanted) in [
         ("- <a> <p> <b> .\n<a> <p> <b> .", "less\n"),
         ("<a> <p> <b> .\n- <a> <p> <b> .", "less\n<a> <p> <b> .\n"),
-        (
-            "- <c> <p> <b> .\n<c> <p> <b> .",
-            "<c> <p> <b> .\nless\n",
-        ),
+        ("- <c> <p> <b> .\n<c> <p> <b> .", "<c> <p> <b> .\nless\n"),
         ("<c> <p> <b> .\n- <c> <p> <b> .", "less\n"),
     ] {
         let seen = changed(alloc, text)?;
@@ -203,7 +203,10 @@ fn layers_keep_to_their_places(rt: HostRuntime) -> Result<(), Fail> {
     let alloc = rt.alloc();
     let base = "plain 00000001 none\n+ <a> <p> <b> .\n";
     for (file, wanted) in [
-        ("plain 00000002 00000001\n+ <c> <p> <b> .\n- <a> <p> <b> .\n", true),
+        (
+            "plain 00000002 00000001\n+ <c> <p> <b> .\n- <a> <p> <b> .\n",
+            true,
+        ),
         ("plain 00000002 00000001\n- <c> <p> <b> .\n", false),
         ("plain 00000002 00000001\n+ <a> <p> <b> .\n", false),
         ("plain 00000003 00000002\n", false),

@@ -69,6 +69,8 @@ returns-in_err-push-clause-memory c =
     let change = c.in_ok-change.change in
     let p = err_from_is_err_and c.from_residual-in_err-push.result c.from_residual-in_err-push.ensures.1 in
     rw (p.1) (λ e.
-    begins_with_line sign c.args.bytes.now c.loop-behind.triples.items c.loop-behind.rest.now inv.lines
-    (line_text change.triple, change.rest.now,
-      c.in-Some.ensures.some ∙ ap (λ l. sign ∷ 0x20 ∷ l) (c.in_ok-change.ensures.ok.1 ∙ line_before change.triple change.rest.now)))
+    begins_with_line sign c.args.bytes.now c.loop-behind.triples.items c.loop-behind.rest.now inv.lines (
+      line_text change.triple,
+      change.rest.now,
+      c.in-Some.ensures.some ∙ ap (λ l. sign ∷ 0x20 ∷ l) (c.in_ok-change.ensures.ok.1 ∙ line_before change.triple change.rest.now),
+    ))

@@ -1,4 +1,4 @@
-use Rattle.std.proofs.Common.{◌≡◌, ◌∙◌, true≢false, sym, subst}
+use Rattle.std.proofs.Common.{◌∙◌, true≢false, sym, subst}
 use Rattle.ts_plain.specs.History.{history_of}
 use Rattle.ts_plain.proofs.PlaceLaws.{AreHistory-push, HasAll, HasNone, is_above, parent_stands, has_removals, lacks_additions}
 use Rattle.ts_plain.proofs.keeps.keeps_to_place.Goals as goal

@@ -6,7 +6,7 @@ use Rattle.ts_model.specs.TextTriple.{TextTriple}
 use Rattle.ts_model.specs.History.{History, content_at}
 use Rattle.ts_model.specs.Listing.{in_birth_order, listing}
 use Rattle.ts_model.specs.Order.{triple_cmp}
-use Rattle.ts_model.specs.Sets.{from_list, members}
+use Rattle.ts_model.specs.Sets.{from_list}
 use Rattle.ts_model.proofs.SetLaws.{IsStrictlySortedBy-members}
 use Rattle.ts_model.proofs.TripleSets.{from_list-members}
 use Rattle.ts_plain.specs.Chain.{IsChain}
@@ -34,7 +34,7 @@ returns c =
     (λ (v : Vec (Bor TextTriple) Global). (history : History) (number : ℕ) → IsChain history number (seen c.as_slice-2.result.now) → values v.items ≡ in_birth_order history number (from_list {R = triple_cmp} (values c.as_slice-3.result.now)))
     (λ (v : Vec (Bor TextTriple) Global). values v.items ≡ listing history number)
     (λ v sorted.
-      sorted history number chain
-      ∙ ap (λ triples. in_birth_order history number (from_list {R = triple_cmp} triples)) (ap values c.as_slice-3.ensures.value ∙ content)
-      ∙ ap (in_birth_order history number) (from_list-members (content_at history number)))
+    sorted history number chain
+    ∙ ap (λ triples. in_birth_order history number (from_list {R = triple_cmp} triples)) (ap values c.as_slice-3.ensures.value ∙ content)
+    ∙ ap (in_birth_order history number) (from_list-members (content_at history number)))
     c.in_birth_order.ensures

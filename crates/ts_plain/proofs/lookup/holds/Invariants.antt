@@ -1,4 +1,4 @@
-use Rattle.std.proofs.Common.{◌≡◌, ℕ, IfSome}
+use Rattle.std.proofs.Common.{◌≡◌, IfSome}
 use Rattle.ts_model.specs.History.{content_at, content_at_parent}
 use Rattle.ts_model.specs.Sets.{contains}
 use Rattle.ts_plain.specs.Chain.{StandsIn}

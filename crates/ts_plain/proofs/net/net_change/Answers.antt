@@ -1,4 +1,4 @@
-use Rattle.std.proofs.Common.{◌≡◌, ◌∙◌, List, Bor, Some, not, ◌&&◌, map, filter, ap}
+use Rattle.std.proofs.Common.{◌∙◌, Bor, Some, not, ◌&&◌, map, filter, ap}
 use Rattle.ts_model.specs.declared.signed.SignedTriple.{SignedTriple}
 use Rattle.ts_model.specs.History.{content_at_parent}
 use Rattle.ts_model.specs.NetChange.{is_added, is_removed}

@@ -4,7 +4,7 @@ use Rattle.std.proofs.lemmas.Result.{IfOk-weaker}
 use Rattle.ts_model.specs.declared.totals.Totals.{Totals}
 use Rattle.ts_model.specs.TextTriple.{TextTriple}
 use Rattle.ts_model.specs.ChainTotals.{added_along, terms_at, predicates_at}
-use Rattle.ts_model.specs.History.{LayerRecord, History}
+use Rattle.ts_model.specs.History.{LayerRecord}
 use Rattle.ts_model.specs.Totals.{term_count, predicate_count}
 use Rattle.ts_plain.specs.declared.write.PlainLayer.{PlainLayer}
 use Rattle.ts_plain.specs.Chain.{StandsIn}

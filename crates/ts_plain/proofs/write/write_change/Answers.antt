@@ -10,5 +10,5 @@ returns-clause-terms c =
     let triple = c.args.triple.now in
     on_ok_weaker c.write_triple.result
     (λ (read : (line : List ℕ) × (c.write_triple.new.into.items ≡ c.push-2.new.self.items ++ (line ++ 0x0A ∷ [])) × IsReadAs line (record { sign = Add; triple = triple })).
-      read_triple read.0 (record { sign = Add; triple = triple }) read.2)
+    read_triple read.0 (record { sign = Add; triple = triple }) read.2)
     c.write_triple.ensures.reads
