@@ -175,7 +175,11 @@ fn dictionary(alloc: Global, count: u64) -> Result<(Vec<u8>, Vec<u8>), AllocErro
 
 fn time_texts(rt: &(impl Print + Clock), alloc: Global, count: u64) -> anyhow::Result<()> {
     let (starts, bytes) = dictionary(alloc, count)?;
-    if let Some(view) = FrontView::open(&starts, &bytes) {
+    let start = Instant::now(rt)?;
+    let opened = FrontView::open(&starts, &bytes);
+    let nanos = start.elapsed(rt)?.as_nanos();
+    if let (Some(view), Some(each)) = (opened, nanos.checked_div(u128::from(count))) {
+        println!(rt; "open {each} ns a text")?;
         time_find(rt, &view)?;
     }
     Ok(())

@@ -89,6 +89,31 @@ fn calls_of(kind: CallKind, makes: bool) -> u64 {
     }
 }
 
+/// How many calls that use room such a run makes, where nothing fails.
+fn calls_of_a_run(makes: bool) -> u64 {
+    if makes { 7 } else { 2 }
+}
+
+/// How many calls that use room such a run has made when a call of a kind fails, that call among them. Listing and reading
+/// use none.
+fn calls_until(kind: CallKind, makes: bool) -> u64 {
+    match kind {
+        CallKind::Barrier | CallKind::List | CallKind::Size | CallKind::ReadAt => 1,
+        CallKind::Create => 2,
+        CallKind::Append => 3,
+        CallKind::Sync => 4,
+        CallKind::Rename => 5,
+        CallKind::SyncNames => 6,
+        CallKind::Say => calls_of_a_run(makes),
+        CallKind::Remove => 0,
+    }
+}
+
+/// Whether exactly so many calls that use room were made.
+fn has_made(site: &MemorySite, calls: u64) -> bool {
+    ROOM.0.saturating_sub(site.room().0) == calls
+}
+
 /// Whether the third layer stands after a fault of a run that makes it.
 fn is_placed(fault: Fault) -> bool {
     match fault.kind {
@@ -117,7 +142,7 @@ fn is_stopped(outcome: &Outcome, by_output: bool) -> bool {
     is_right && outcome.done == 0
 }
 
-/// Whether a run was stopped by a fault, with what it made and told before.
+/// Whether a run was stopped by a fault, with what it made and told before, and no call that uses room after the failed one.
 fn stops(site: &MemorySite, outcome: &Outcome, case: Case<'_>, fault: Fault) -> bool {
     let by_output = matches!(fault.kind, CallKind::Say);
     let told = if by_output {
@@ -128,6 +153,7 @@ fn stops(site: &MemorySite, outcome: &Outcome, case: Case<'_>, fault: Fault) -> 
     is_stopped(outcome, by_output)
         && site.told() == told
         && stand(site, case.makes && is_placed(fault))
+        && has_made(site, calls_until(fault.kind, case.makes))
 }
 
 /// Whether a run came to its end undisturbed.
@@ -138,6 +164,7 @@ fn ends(site: &MemorySite, outcome: &Outcome, case: Case<'_>) -> bool {
         && site.told() == case.reply
         && stand(site, case.makes)
         && has(site, b"new.tmp", None)
+        && has_made(site, calls_of_a_run(case.makes))
 }
 
 /// Whether a run with a planned fault is stopped by it, or comes to its end where it makes fewer calls of that kind.

@@ -5,9 +5,9 @@
 //!   a run that a stop ended.
 //! - [`stop_line`] spells a stop as a [`StopLine`].
 //!
-//! The contract that the program uses is `run`'s: on a folder that stands for a history, what was told is the
-//! plain history's replies to the commands that words and input ask for; the folder stands for the history after them,
-//! and each other answer has its cause.
+//! The contract that the program uses is `run`'s: on a folder that stands for a state, what was told is the plain
+//! history's replies to the commands that words and input ask for; the folder stands for the state after them, and each
+//! stop but want of memory comes exactly for its cause.
 #![tactic(auto)]
 
 #[cfg(test)]

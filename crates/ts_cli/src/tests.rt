@@ -2,6 +2,7 @@ use super::*;
 use crate::test_runs::{file, run_from, run_words};
 use std::alloc::Global;
 use std::test::Fail;
+use ts_model::TERM_LIMIT;
 use ts_site::{CallKind, FaultKind, FileName, MemorySite, MemorySource};
 
 #[test]
@@ -52,7 +53,7 @@ fn a_triple_stands_once_and_the_triples_rise(rt: HostRuntime) -> Result<(), Fail
     Ok(())
 }
 
-/// Makes a base of an input in an empty folder, and tells the status, what was said and the layer's file.
+/// Makes a base of an input in an empty folder with room for so many bytes, and gives the status and the site.
 fn base_of(alloc: Global, input: &[u8], room: u64) -> Result<(u8, MemorySite), Fail> {
     let mut site = MemorySite::new(alloc, 20, room)?;
     let outcome = run_words(alloc, &mut site, &["base"], input)?;
@@ -173,14 +174,14 @@ fn line_of(alloc: Global, object: usize) -> Result<Vec<u8>, Fail> {
 #[test]
 fn an_object_at_its_limit(rt: HostRuntime) -> Result<(), Fail> {
     let alloc = rt.alloc();
-    let longest = line_of(alloc, 1_048_576)?;
+    let longest = line_of(alloc, TERM_LIMIT)?;
     let (status, site) = base_of(alloc, &longest, 3_000_000)?;
     assert_eq!(rt; status, 0);
     assert_eq!(rt;
         file(&site, b"00000001.layer")?.map(|bytes| bytes.len()),
-        Some(20 + 2 + 8 + 1_048_576 + 3)
+        Some(20 + 2 + 8 + TERM_LIMIT + 3)
     );
-    let longer = line_of(alloc, 1_048_577)?;
+    let longer = line_of(alloc, TERM_LIMIT + 1)?;
     assert!(rt; refuses(alloc, &longer, b"refused too-long 1\n")?);
     Ok(())
 }

@@ -5,6 +5,7 @@ pub mod PieceLemmas
 pub mod BlockLemmas
 pub mod OrderLemmas
 pub mod MadeLemmas
+pub mod MadeByLemmas
 pub mod RisingLemmas
 pub mod ReadsLemmas
 pub mod NextLemmas
@@ -14,3 +15,4 @@ pub mod IterLemmas
 pub mod BuilderLemmas
 pub mod Vectors
 pub mod PushLemmas
+pub mod WordOrderLemmas

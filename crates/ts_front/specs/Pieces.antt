@@ -1,10 +1,12 @@
-use Rattle.std.specs.Prelude.{◌≡◌, ℕ, ◌-◌, ◌%◌, ◌/◌, ◌*◌, ◌<◌, ◌≤◌, ◌==◌, Bool, if◌then◌else◌, List, [], ◌∷◌, ◌++◌, length, take, drop, map, slice_index}
+use Rattle.std.specs.Prelude.{◌≡◌, ℕ, ◌+◌, ◌-◌, ◌%◌, ◌*◌, ◌<◌, ◌≤◌, ◌==◌, Bool, if◌then◌else◌, List, [], ◌∷◌, ◌++◌, length, take, drop, map, slice_index}
 use Rattle.std.specs.List.{range_with_len}
 use Rattle.std.specs.Cmp.Lexicographic.{slice_cmp}
 use Rattle.std.specs.Ordering.{nat_cmp}
 use Rattle.std.specs.declared.cmp.Ordering.{Ordering}
 use Rattle.ts_vbyte.specs.Spelling.{spelling}
 use Rattle.ts_front.specs.Shared.{shared_length, text_at}
+use Rattle.ts_front.specs.declared.piece.Piece.{Piece}
+use Rattle.ts_front.specs.Made.{made_by, Fit}
 use Rattle.ts_front.specs.Dictionary.{Rising, whole, entries_bytes, place_of, block_starts}
 
 -- the text from which entry i is spelled: none where it begins a block
@@ -40,6 +42,10 @@ pub record IsBody (starts body : List ℕ) (texts : List (List ℕ)) : Type 0 wh
   pub starts_are : starts ≡ block_starts texts
   pub spelled : body ≡ entries_bytes texts (length texts)
 
+-- how many entries the last block has, where there is one
+abbrev pub in_last_block : List (List ℕ) → ℕ
+in_last_block texts = (length texts - 1) % 8 + 1
+
 -- how an entry and a text compare: how much they share, and their order
 pub record Compares (entry text : List ℕ) (shared : ℕ) (order : Ordering) : Type 0 where
   pub shares : shared ≡ shared_length entry text
@@ -51,11 +57,12 @@ FirstBelow old [] = ⊥
 FirstBelow [] (y ∷ ys) = Unit {0}
 FirstBelow (x ∷ xs) (y ∷ ys) = x < y
 
--- the bytes before a place are those of a front of a dictionary: where its last block begins, and how long its last text is
-pub record Reads (starts body : List ℕ) (texts : List (List ℕ)) (block place last : ℕ) : Type 0 where
+-- the bytes before a place are those of a front of a dictionary, whose last text the pieces of its last block make
+pub record Reads (starts body : List ℕ) (pieces : List Piece) (texts : List (List ℕ)) (place last : ℕ) : Type 0 where
   pub rising : Rising texts
   pub within : place ≤ length body
   pub spelled : take place body ≡ entries_bytes texts (length texts)
   pub starts_are : (b : ℕ) → 8 * b < length texts → slice_index starts b ≡ place_of texts (8 * b)
-  pub block_begins : block ≡ place_of texts (8 * ((length texts - 1) / 8))
+  pub fit : 0 < length texts → Fit (take (in_last_block texts) pieces)
+  pub made : 0 < length texts → made_by (take (in_last_block texts) pieces) ≡ text_at texts (length texts - 1)
   pub last_length : last ≡ length (text_at texts (length texts - 1))

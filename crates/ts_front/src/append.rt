@@ -1,7 +1,7 @@
 //! Entries appended to a buffer.
 
 ghost use Rattle.std.specs.Prelude.{◌≡◌, ℕ, ◌+◌, ◌-◌, ◌<◌, ◌≤◌, ◌++◌, List, OnOk};
-ghost use Rattle.ts_front.specs.Buffer.{Extends};
+ghost use Rattle.ts_log.specs.Buffer.{Extends};
 ghost use Rattle.ts_front.specs.Pieces.{IsBlock};
 ghost use Rattle.ts_front.specs.Shared.{text_at};
 

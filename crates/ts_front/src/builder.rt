@@ -2,7 +2,7 @@
 
 ghost use Rattle.std.specs.Prelude.{◌≡◌, ◌++◌, ◌∷◌, ◌==◌, ◌%◌, ℕ, List, [], length, if◌then◌else◌, OnOk, OnErr, IsSomeAnd, IfSome, Some};
 ghost use Rattle.std.specs.Bool.{MatchBool};
-ghost use Rattle.ts_front.specs.Buffer.{Extends};
+ghost use Rattle.ts_log.specs.Buffer.{Extends};
 ghost use Rattle.ts_front.specs.Dictionary.{IsAfterLast, whole, added, dictionary_starts, dictionary_bytes, DictionarySays};
 
 use crate::compare::shared_length;

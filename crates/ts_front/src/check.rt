@@ -1,22 +1,26 @@
 //! Whether bytes are the entries of a dictionary, in one pass.
 
-ghost use Rattle.std.specs.Prelude.{◌≡◌, ℕ, ◌+◌, ◌-◌, ◌/◌, ◌%◌, ◌<◌, ◌≤◌, ◌↔◌, List, IsTrue, length, take, drop, slice_get, IfSome, IfNone};
+ghost use Rattle.std.specs.Prelude.{◌≡◌, ℕ, ◌+◌, ◌/◌, ◌<◌, ◌≤◌, ◌↔◌, List, IsTrue, length, drop, slice_get, slice_index, IfSome, IfNone};
+ghost use Rattle.std.specs.Cmp.Lexicographic.{slice_cmp};
+ghost use Rattle.std.specs.Ordering.{nat_cmp};
+ghost use Rattle.std.specs.declared.cmp.Ordering.TheVariants.{Less};
 ghost use Rattle.std.specs.Bool.{OnTrue, OnFalse};
-ghost use Rattle.ts_front.specs.Dictionary.{whole};
+ghost use Rattle.ts_front.specs.Made.{made_by, Fit};
 ghost use Rattle.ts_front.specs.Pieces.{FirstBelow, IsBody, Reads};
 
-use crate::compare::{byte_of_last, compare_last};
-use crate::piece::{BLOCK, piece_at};
+use crate::made::{byte_of_made, compare_made};
+use crate::piece::{BLOCK, Piece, piece_at};
 use ts_log::LogView;
 
-/// How far the entries have been read: where the last block begins, where the last entry ends, and
-/// how long it is.
+/// How far the entries have been read: where the last entry ends, and how long it is.
 #[derive(Clone, Copy)]
 struct Reached {
-    block: usize,
     place: usize,
     last: usize,
 }
+
+/// How many pieces are kept.
+const KEPT: usize = BLOCK as usize;
 
 /// How many blocks hold `count` entries.
 fn blocks_for(count: u64) -> u64
@@ -25,7 +29,8 @@ fn blocks_for(count: u64) -> u64
     count / BLOCK + u64::from(count % BLOCK != 0)
 }
 
-/// Whether the bytes are `count` entries of a dictionary whose blocks begin at these places.
+/// Whether the bytes are `count` entries of a dictionary whose blocks begin at these places. The pieces
+/// of the last block are kept, so that no byte is read twice.
 pub fn is_body(starts: &LogView<'_>, count: u64, body: &[u8]) -> bool
     ensures yes { OnTrue result ((texts : List (List ℕ)) × ((length texts ≡ count) × IsBody starts.now body.now texts)) }
     ensures no { OnFalse result ((texts : List (List ℕ)) → length texts ≡ count → ¬ IsBody starts.now body.now texts) }
@@ -33,13 +38,13 @@ pub fn is_body(starts: &LogView<'_>, count: u64, body: &[u8]) -> bool
     if starts.len() != blocks_for(count) {
         return false;
     }
-    let mut reached = Reached {
-        block: 0,
-        place: 0,
-        last: 0,
-    };
+    let mut pieces = [Piece {
+        shared: 0,
+        suffix: &[],
+    }; KEPT];
+    let mut reached = Reached { place: 0, last: 0 };
     for i in 0..count {
-        match read_next(starts, body, i, reached) {
+        match read_next(starts, body, i, reached, &mut pieces) {
             Some(next) => reached = next,
             None => return false,
         }
@@ -48,62 +53,62 @@ pub fn is_body(starts: &LogView<'_>, count: u64, body: &[u8]) -> bool
 }
 
 /// Reads entry `i`, where it is greater than the one before it and shares with it what it says.
-fn read_next(starts: &LogView<'_>, body: &[u8], i: u64, reached: Reached) -> Option<Reached>
+fn read_next<'a>(
+    starts: &LogView<'_>,
+    body: &'a [u8],
+    i: u64,
+    reached: Reached,
+    pieces: &mut [Piece<'a>; KEPT],
+) -> Option<Reached>
     requires block { i / 8 < length starts.now }
-    requires reads { (texts : List (List ℕ)) × ((length texts ≡ i) × Reads starts.now body.now texts reached.block reached.place reached.last) }
+    requires reads { (texts : List (List ℕ)) × ((length texts ≡ i) × Reads starts.now body.now pieces.old texts reached.place reached.last) }
     ensures some { IfSome result (λ next. (texts : List (List ℕ)) × ((length texts ≡ i + 1)
-        × Reads starts.now body.now texts next.block next.place next.last)) }
+        × Reads starts.now body.now pieces.new texts next.place next.last)) }
     ensures none { IfNone result ((texts : List (List ℕ)) → i < length texts → ¬ IsBody starts.now body.now texts) }
 {
     let (piece, place) = piece_at(body, reached.place, i)?;
-    if i % BLOCK == 0 {
-        return read_first(starts, body, i, reached, piece.suffix, place);
-    }
-    if piece.shared > reached.last {
+    let index = (i % BLOCK) as usize;
+    let fits = if index == 0 {
+        begins_block(starts, i, reached.place, pieces, piece.suffix)
+    } else {
+        follows(&pieces[..index], reached.last, piece)
+    };
+    if !fits {
         return None;
     }
-    let first = i / BLOCK * BLOCK;
-    let old = byte_of_last(body, reached.block, first, i, piece.shared);
-    if !begins_greater(piece.suffix, old) {
-        return None;
-    }
+    pieces[index] = piece;
     Some(Reached {
-        block: reached.block,
         place,
         last: piece.shared + piece.suffix.len(),
     })
 }
 
-/// Reads entry `i`, which begins a block and so is the piece's suffix: the block begins where the next
-/// number of `starts` says, and the entry is greater than the last of the block before.
-fn read_first(
+/// Whether entry `i` may be this text and begin a block: the block begins where the next number of
+/// `starts` says, and the text is greater than that of the block before, which the pieces make.
+fn begins_block(
     starts: &LogView<'_>,
-    body: &[u8],
     i: u64,
-    reached: Reached,
-    text: &[u8],
     place: usize,
-) -> Option<Reached>
+    pieces: &[Piece<'_>],
+    text: &[u8],
+) -> bool
     requires block { i / 8 < length starts.now }
-    requires begins { i % 8 ≡ 0 }
-    requires next { (reached.place ≤ place) × (place ≤ length body.now)
-        × (take (place - reached.place) (drop reached.place body.now) ≡ whole text.now) }
-    requires reads { (texts : List (List ℕ)) × ((length texts ≡ i) × Reads starts.now body.now texts reached.block reached.place reached.last) }
-    ensures some { IfSome result (λ next. (texts : List (List ℕ)) × ((length texts ≡ i + 1)
-        × Reads starts.now body.now texts next.block next.place next.last)) }
-    ensures none { IfNone result ((texts : List (List ℕ)) → i < length texts → ¬ IsBody starts.now body.now texts) }
+    requires fit { 0 < i → Fit pieces.now }
+    ensures { IsTrue result ↔ ((slice_index starts.now (i / 8) ≡ place)
+        × (0 < i → slice_cmp nat_cmp (made_by pieces.now) text.now ≡ Less)) }
 {
-    if starts.get(i / BLOCK) != reached.place as u64 {
-        return None;
-    }
-    if i > 0 && !compare_last(body, reached.block, i - BLOCK, i, text).is_lt() {
-        return None;
-    }
-    Some(Reached {
-        block: reached.place,
-        place,
-        last: text.len(),
-    })
+    starts.get(i / BLOCK) == place as u64 && (i == 0 || compare_made(pieces, text).is_lt())
+}
+
+/// Whether an entry may be what this piece makes of the text that the pieces make, which has `last`
+/// bytes: it shares no more than that has, and goes on with a greater byte.
+fn follows(pieces: &[Piece<'_>], last: usize, piece: Piece<'_>) -> bool
+    requires fit { Fit pieces.now }
+    requires long { last ≡ length (made_by pieces.now) }
+    ensures { IsTrue result ↔ ((piece.entry.shared ≤ last)
+        × FirstBelow (drop piece.entry.shared (made_by pieces.now)) piece.entry.suffix.now) }
+{
+    piece.shared <= last && begins_greater(piece.suffix, byte_of_made(pieces, piece.shared))
 }
 
 /// Whether a text's first byte is there, and greater than the byte, where that is there.

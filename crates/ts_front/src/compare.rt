@@ -30,7 +30,7 @@ pub fn shared_length(a: &[u8], b: &[u8]) -> usize
 }
 
 /// How two texts compare.
-fn compare_texts(entry: &[u8], text: &[u8]) -> Compared
+pub fn compare_texts(entry: &[u8], text: &[u8]) -> Compared
     ensures { Compares entry.now text.now result.shared result.order }
 {
     Compared {
@@ -40,7 +40,7 @@ fn compare_texts(entry: &[u8], text: &[u8]) -> Compared
 }
 
 /// How the entry of a piece compares with the text, where the entry before it compares so.
-fn go_on(before: Compared, piece: Piece<'_>, text: &[u8]) -> Compared
+pub fn go_on(before: Compared, piece: Piece<'_>, text: &[u8]) -> Compared
     requires { before.shared ≤ length text.now }
     ensures inside { result.shared ≤ length text.now }
     ensures compares { (entry : List ℕ) → piece.entry.shared ≤ length entry
@@ -101,33 +101,4 @@ pub fn find_equal(body: &[u8], place: usize, first: u64, end: u64, text: &[u8]) 
         at = next;
     }
     None
-}
-
-/// Byte `at`, where there is one.
-fn byte_at(bytes: &[u8], at: usize) -> Option<u8>
-    ensures { result ≡ slice_get bytes.now at }
-{
-    bytes.get(at).copied()
-}
-
-/// Byte `at` of the entry before `end`, in the block that begins with the entry `first` at `place`.
-pub fn byte_of_last(body: &[u8], place: usize, first: u64, end: u64, at: usize) -> Option<u8>
-    requires some { first < end }
-    requires within { end ≤ first + 8 }
-    requires block { (texts : List (List ℕ)) × IsBlock body.now place first end texts }
-    ensures { (texts : List (List ℕ)) → IsBlock body.now place first end texts
-        → result ≡ slice_get (text_at texts (end - 1)) at }
-{
-    let mut next = place;
-    let mut found = None;
-    for i in first..end {
-        let Some((piece, after)) = piece_at(body, next, i) else {
-            unreachable!()
-        };
-        if at >= piece.shared {
-            found = byte_at(piece.suffix, at - piece.shared);
-        }
-        next = after;
-    }
-    found
 }

@@ -25,8 +25,8 @@
 //!
 //! # Cost
 //!
-//! `open` goes over the bytes once. `find` searches the first entries of the blocks by halves, and then
-//! the at most eight entries of one block. No lookup makes an entry to compare it.
+//! `open` goes over the bytes once. `find` searches the first entries of the blocks by quarters, three
+//! at once so that their bytes are fetched together, and then the at most eight entries of one block. No lookup makes an entry to compare it.
 #![tactic(auto)]
 
 mod append;
@@ -34,6 +34,8 @@ mod builder;
 mod check;
 mod compare;
 mod entries;
+mod made;
+mod order;
 mod piece;
 mod view;
 

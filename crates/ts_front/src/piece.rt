@@ -1,6 +1,7 @@
 //! Entries by what they add to the ones before them, read from bytes.
 
 ghost use Rattle.std.specs.Prelude.{◌≡◌, ◌≢◌, ◌==◌, ℕ, ◌+◌, ◌-◌, ◌%◌, ◌^◌, ◌<◌, ◌≤◌, ◌++◌, List, IsTrue, length, take, drop, IfSome, IfNone};
+ghost use Rattle.ts_vbyte.specs.Spelling.{NumberSays};
 ghost use Rattle.ts_front.specs.Dictionary.{whole};
 ghost use Rattle.ts_front.specs.Pieces.{piece_bytes};
 
@@ -9,11 +10,27 @@ use ts_vbyte::get;
 /// How many entries a block has, but for the last one.
 pub const BLOCK: u64 = 8;
 
+/// The bit that the last byte of a number has alone.
+const LAST: u8 = 0x80;
+
 /// What an entry adds: it is the first `shared` bytes of the entry before it, and then `suffix`.
 #[derive(Clone, Copy)]
 pub struct Piece<'a> {
     pub shared: usize,
     pub suffix: &'a [u8],
+}
+
+/// The number at the start of the bytes, and how many bytes it takes: most take one, and for these no
+/// loop is begun.
+fn read_number(bytes: &[u8]) -> Option<(u64, usize)>
+    ensures some { IfSome result (λ found.
+        (found.1 ≤ length bytes.now) × NumberSays (take found.1 bytes.now) found.0) }
+    ensures none { IfNone result ((size x : ℕ) → ¬ NumberSays (take size bytes.now) x) }
+{
+    if !bytes.is_empty() && bytes[0] >= LAST {
+        return Some((u64::from(bytes[0] - LAST), 1));
+    }
+    get(bytes)
 }
 
 /// The whole text at the start of the bytes, and how many bytes it takes.
@@ -22,7 +39,7 @@ fn read_whole(bytes: &[u8]) -> Option<(&[u8], usize)>
         (found.1 ≤ length bytes.now) × (take found.1 bytes.now ≡ whole found.0.now)) }
     ensures none { IfNone result ((text rest : List ℕ) → length text < 2 ^ 64 → bytes.now ≢ whole text ++ rest) }
 {
-    let (count, size) = get(bytes)?;
+    let (count, size) = read_number(bytes)?;
     let rest = &bytes[size..];
     if count > rest.len() as u64 {
         return None;
@@ -45,7 +62,7 @@ pub fn read_piece(bytes: &[u8], head: bool) -> Option<(Piece<'_>, usize)>
         let (suffix, size) = read_whole(bytes)?;
         return Some((Piece { shared: 0, suffix }, size));
     }
-    let (shared, size) = get(bytes)?;
+    let (shared, size) = read_number(bytes)?;
     let (suffix, more) = read_whole(&bytes[size..])?;
     let piece = Piece {
         shared: shared as usize,

@@ -5,7 +5,7 @@ ghost use Rattle.std.specs.Cmp.Lexicographic.{slice_cmp};
 ghost use Rattle.std.specs.Ordering.{nat_cmp};
 ghost use Rattle.std.specs.Int.{w64, to_be_bytes};
 ghost use Rattle.std.specs.declared.cmp.Ordering.TheVariants.{Greater};
-ghost use Rattle.ts_front.specs.Buffer.{Extends};
+ghost use Rattle.ts_log.specs.Buffer.{Extends};
 ghost use Rattle.ts_front.specs.Dictionary.{DictionarySays, DictionarySaysOnly, place_of};
 ghost use Rattle.ts_front.specs.Pieces.{pieces_of, shared_at, suffix_at};
 ghost use Rattle.ts_front.specs.Shared.{text_at};
@@ -14,6 +14,7 @@ use crate::append::append_last;
 use crate::check::is_body;
 use crate::compare::{compare_last, find_equal};
 use crate::entries::Entries;
+use crate::order::order_of;
 use crate::piece::{BLOCK, Piece, piece_at};
 use std::alloc::AllocError;
 use std::cmp::Ordering;
@@ -123,7 +124,7 @@ impl<'a> FrontView<'a> {
     }
 
     /// The place of the text among the entries: the first entries of the blocks are searched by
-    /// halves, and then the entries of one block.
+    /// quarters, and then the entries of one block.
     pub fn find(&self, text: &[u8]) -> Option<u64>
         ensures found { IfSome result (λ i. (i < length self.now) × (text_at self.now i ≡ text.now)) }
         ensures absent { IfNone result ((i : ℕ) → i < length self.now → text_at self.now i ≢ text.now) }
@@ -188,7 +189,16 @@ impl<'a> FrontView<'a> {
         piece.suffix
     }
 
-    /// The last block whose first entry is not above the text: a binary search.
+    /// Whether the first entry of a block is above the text.
+    fn is_above(&self, block: u64, text: &[u8]) -> bool
+        requires { 8 * block < length self.now }
+        ensures { IsTrue result ↔ (slice_cmp nat_cmp (text_at self.now (8 * block)) text.now ≡ Greater) }
+    {
+        order_of(self.head(block), text).is_gt()
+    }
+
+    /// The last block whose first entry is not above the text: a search by quarters, which looks at
+    /// three first entries at once, so that their bytes are fetched together.
     fn block_of(&self, text: &[u8]) -> Option<u64>
         ensures some { IfSome result (λ block. (8 * block < length self.now)
             × (slice_cmp nat_cmp (text_at self.now (8 * block)) text.now ≢ Greater)
@@ -200,10 +210,21 @@ impl<'a> FrontView<'a> {
         let mut high = self.starts.len();
         while low < high {
             let middle = low + (high - low) / 2;
-            if self.head(middle).cmp(text).is_gt() {
+            let first = low + (middle - low) / 2;
+            let last = middle + (high - middle) / 2;
+            let first_above = self.is_above(first, text);
+            let middle_above = self.is_above(middle, text);
+            let last_above = self.is_above(last, text);
+            if first_above {
+                high = first;
+            } else if middle_above {
+                low = first + 1;
                 high = middle;
-            } else {
+            } else if last_above {
                 low = middle + 1;
+                high = last;
+            } else {
+                low = last + 1;
             }
         }
         if low == 0 { None } else { Some(low - 1) }

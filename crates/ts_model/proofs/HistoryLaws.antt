@@ -15,10 +15,10 @@ pub chain_within-none : (most : ℕ) (history : History) → chain_within most h
 chain_within-none zero history = refl
 chain_within-none (suc most) history = refl
 
-abbrev Found : History → ℕ → Type 0
+abbrev pub Found : History → ℕ → Type 0
 Found history k = (layer : LayerRecord) × (get history k ≡ Some layer)
 
-found : (history : History) (k : ℕ) → IsTrue (contains_key history k) → Found history k
+pub found : (history : History) (k : ℕ) → IsTrue (contains_key history k) → Found history k
 found history k is = elim (get history k) as (λ o. get history k ≡ o → IsTrue (is_some o) → Found history k) [
   | None ↦ λ e h. absurd (true≢false (sym h))
   | Some layer ↦ λ e h. (layer, e)
@@ -26,7 +26,7 @@ found history k is = elim (get history k) as (λ o. get history k ≡ o → IsTr
 
 module _ (history : History) (kept : IsWellKept history) where
   -- enough is enough
-  same_within : (n m k : ℕ) → k ≤ n → k ≤ m → Found history k → chain_within n history (Some k) ≡ chain_within m history (Some k)
+  pub same_within : (n m k : ℕ) → k ≤ n → k ≤ m → Found history k → chain_within n history (Some k) ≡ chain_within m history (Some k)
   same_within zero m k a b stands = let positive = (kept k stands.0 stands.1).number.0 in absurd (omega arith)
   same_within (suc n) zero k a b stands = let positive = (kept k stands.0 stands.1).number.0 in absurd (omega arith)
   same_within (suc n) (suc m) k a b stands =

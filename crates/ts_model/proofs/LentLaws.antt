@@ -1,10 +1,11 @@
 -- References to elements, as the list of what they lend: sorting the one sorts the other, and so with what passes a test.
-use Rattle.std.proofs.Common.{◌≡◌, ◌+◌, ◌<◌, Bool, true, false, cond, List, [], ◌∷◌, map, filter, length, refl, sym, ap, ◌∙◌, arith, Bor}
+use Rattle.std.proofs.Common.{◌≡◌, ◌+◌, ◌<◌, Bool, true, false, cond, All, List, [], ◌∷◌, map, filter, length, refl, sym, ap, ◌∙◌, arith, Bor}
 use Rattle.std.specs.declared.cmp.Ordering.{Ordering}
 use Rattle.std.specs.Ordering.{is_lt}
 use Rattle.std.specs.List.{dedup, dedup_from}
 use Rattle.std.specs.List.Sorted.{IsSorted, IsStable, ties}
 use Rattle.std.proofs.lemmas.List.{length-map, get_or-map}
+use Rattle.std.proofs.lemmas.List.Elements.{All-nil, All-cons, All-head, All-tail}
 
 module _ {X : Type 0} where
   abbrev pub lent : List (Bor X) → List X
@@ -27,20 +28,17 @@ module _ {X : Type 0} where
         | false ↦ ap (λ l. k.now ∷ l) (dedup_from-lent same x xs)
       ]
 
-  dedup-lent : (same : X → X → Bool) (xs : List (Bor X)) → dedup same (lent xs) ≡ lent (dedup (λ x y. same x.now y.now) xs)
+  pub dedup-lent : (same : X → X → Bool) (xs : List (Bor X)) → dedup same (lent xs) ≡ lent (dedup (λ x y. same x.now y.now) xs)
   dedup-lent same [] = refl
   dedup-lent same (x ∷ xs) = dedup_from-lent same x xs
 
-  map-lent : {Y : Type 0} (f : X → Y) (xs : List (Bor X)) → map (λ x. f x.now) xs ≡ map f (lent xs)
+  pub map-lent : {Y : Type 0} (f : X → Y) (xs : List (Bor X)) → map (λ x. f x.now) xs ≡ map f (lent xs)
   map-lent f [] = refl
   map-lent f (x ∷ xs) = ap (λ l. f x.now ∷ l) (map-lent f xs)
 
-  -- what passes a test, of the first of each run
-  pub passed-lent : {Y : Type 0} (same : X → X → Bool) (p : X → Bool) (f : X → Y) (xs : List (Bor X))
-      → map (λ x. f x.now) (filter (λ x. p x.now) (dedup (λ x y. same x.now y.now) xs)) ≡ map f (filter p (dedup same (lent xs)))
-  passed-lent same p f xs =
-      let kept : List (Bor X) = dedup (λ x y. same x.now y.now) xs in
-      map-lent f (filter (λ x. p x.now) kept) ∙ ap (map f) (sym (filter-lent p kept) ∙ ap (filter p) (sym (dedup-lent same xs)))
+  pub All-from_lent : (P : X → Type 0) (xs : List (Bor X)) → All P (lent xs) → All (λ x. P x.now) xs
+  All-from_lent P [] h = All-nil (λ x. P x.now)
+  All-from_lent P (x ∷ xs) h = All-cons (λ x. P x.now) x xs (All-head P x.now (lent xs) h) (All-from_lent P xs (All-tail P x.now (lent xs) h))
 
   pub IsSorted-lent : (cmp : X → X → Ordering) (xs : List (Bor X)) → IsSorted (λ x y. cmp x.now y.now) xs → IsSorted cmp (lent xs)
   IsSorted-lent cmp [] h k d low high = absurd (omega arith)

@@ -1,5 +1,5 @@
 -- The first element that passes a test, among the elements that a filter or a `dedup` leaves; and rising lists.
-use Rattle.std.proofs.Common.{◌≡◌, Bool, true, false, ◌||◌, cond, List, [], ◌∷◌, map, filter, find, Option, Some, None, refl, sym, ap, ◌∙◌, true≢false}
+use Rattle.std.proofs.Common.{◌≡◌, Bool, true, false, ◌||◌, cond, List, [], ◌∷◌, ◌++◌, flat_map, map, filter, find, Option, Some, None, refl, sym, ap, ◌∙◌, true≢false}
 use Rattle.std.specs.Option.{is_some}
 use Rattle.std.specs.declared.cmp.Ordering.{Ordering}
 use Rattle.std.specs.declared.cmp.Ordering.TheVariants.{Less}
@@ -48,6 +48,10 @@ list_any-map p f (x ∷ xs) = ap (λ b. p (f x) || b) (list_any-map p f xs)
 -- what a `dedup` drops passes a test just where what is kept does
 pub list_any-dedup : {X : Type 0} (same : X → X → Bool) (p : X → Bool) → ((x k : X) → same x k ≡ true → p x ≡ p k) → (xs : List X) → list_any p (dedup same xs) ≡ list_any p xs
 list_any-dedup same p alike xs = sym (is_some-find p (dedup same xs)) ∙ ap is_some (find-dedup same p alike xs) ∙ is_some-find p xs
+
+pub flat_map-map : {X Y Z : Type 0} (g : Y → List Z) (f : X → Y) (xs : List X) → flat_map (λ x. g (f x)) xs ≡ flat_map g (map f xs)
+flat_map-map g f [] = refl
+flat_map-map g f (x ∷ xs) = ap (λ l. g (f x) ++ l) (flat_map-map g f xs)
 
 module _ {X K : Type 0} (R : K → K → Ordering) (key : X → K) where
   above-map : (x : X) (xs : List X) → AllByRecursion (λ y. on key R x y ≡ Less) xs → AllByRecursion (λ k. R (key x) k ≡ Less) (map key xs)

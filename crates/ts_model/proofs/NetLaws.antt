@@ -1,22 +1,23 @@
--- That sorting the lines from the last to the first, and keeping the first of each triple, leaves the net additions.
-use Rattle.std.proofs.Common.{◌≡◌, Bool, true, false, not, ◌&&◌, ◌||◌, cond, List, [], ◌∷◌, map, filter, find, reverse, Option, Some, None, refl, sym, ap, ◌∙◌}
+-- That sorting the lines from the last to the first, and keeping the first of each triple, leaves the last line of each.
+use Rattle.std.proofs.Common.{◌≡◌, Bool, true, false, not, ◌&&◌, cond, All, List, [], ◌∷◌, map, filter, find, reverse, Some, refl, sym, ap, ◌∙◌}
 use Rattle.std.specs.Option.{is_some, option_map}
 use Rattle.std.specs.declared.cmp.Ordering.{Ordering}
 use Rattle.std.specs.declared.cmp.Ordering.TheVariants.{Less, Equal, Greater}
 use Rattle.std.specs.Ordering.{eq_by_cmp, is_eq, is_lt, on, ordering_reverse}
-use Rattle.std.specs.Cmp.{IsTotalOrder, Equal-is, on_total}
-use Rattle.std.specs.List.{list_any, AllByRecursion, dedup}
+use Rattle.std.specs.Cmp.{IsTotalOrder, Equal-is, on_total, tied_itself}
+use Rattle.std.specs.List.{AllByRecursion, dedup}
 use Rattle.std.specs.List.Sorted.{IsStrictlySortedBy, IsSorted, IsStable, ties}
-use Rattle.std.proofs.lemmas.List.Kept.{IsStrictlySortedBy-dedup, IsStrictlySortedBy-filter}
+use Rattle.std.proofs.lemmas.List.Kept.{IsStrictlySortedBy-dedup}
+use Rattle.std.proofs.lemmas.List.Elements.{All-weaker, All-from_recursion}
 use Rattle.std.proofs.lemmas.List.Sorted.{list_any-IsPermutation, IsPermutation-reverse}
 use Rattle.ts_model.specs.declared.signed.Sign.TheVariants.{Add}
 use Rattle.ts_model.specs.declared.signed.SignedTriple.{SignedTriple}
 use Rattle.ts_model.specs.TextTriple.{TextTriple}
 use Rattle.ts_model.specs.Order.{triple_cmp, triple_cmp_total, triple_cmp-IsAntisymmetric}
-use Rattle.ts_model.specs.NetChange.{is_line_of, last_sign, is_added, body_triples, added}
+use Rattle.ts_model.specs.NetChange.{is_line_of, last_sign, body_triples}
 use Rattle.ts_model.specs.Sets.{contains, members}
 use Rattle.ts_model.proofs.ListLaws.{head_of, find-filter, is_some-find, find-dedup, list_any-map, IsStrictlySortedBy-map}
-use Rattle.ts_model.proofs.SetLaws.{contains-from_list, contains-retain, members_are}
+use Rattle.ts_model.proofs.SetLaws.{contains-from_list, members_are}
 
 -- ---- lines in the order of their triples
 
@@ -28,9 +29,6 @@ line_cmp_total = on_total (λ (line : SignedTriple). line.triple) triple_cmp_tot
 
 abbrev pub is_same : SignedTriple → SignedTriple → Bool
 is_same = eq_by_cmp line_cmp
-
-abbrev pub adds : SignedTriple → Bool
-adds line = is_added (Some line.sign)
 
 abbrev pub triples_of : List SignedTriple → List TextTriple
 triples_of lines = map (λ line. line.triple) lines
@@ -57,61 +55,55 @@ find-stable xs ys stable q =
 find-kept : (q : TextTriple) (ys : List SignedTriple) → find (is_line_of q) (dedup is_same ys) ≡ find (is_line_of q) ys
 find-kept q ys = find-dedup is_same (is_line_of q) (λ x k e. ap (λ t. eq_by_cmp triple_cmp q t) (same_triple x k e)) ys
 
--- ---- the triples that are added, of lines of which each triple has one
+-- ---- the lines that are left, of which each triple has one
 
-none_above : (q : TextTriple) (x : SignedTriple) (lines : List SignedTriple) → is_line_of q x ≡ true → AllByRecursion (λ y. line_cmp x y ≡ Less) lines → find (is_line_of q) lines ≡ None
-none_above q x [] e a = refl
-none_above q x (y ∷ ys) e a =
-    let equal = (Equal-is (triple_cmp q x.triple)).0 e in
-    ap (λ r. cond (is_eq r) (Some y) (find (is_line_of q) ys)) (triple_cmp_total.congr q x.triple y.triple equal ∙ a.0) ∙ none_above q x ys e a.1
+itself : (q : TextTriple) → eq_by_cmp triple_cmp q q ≡ true
+itself q = ap is_eq (tied_itself triple_cmp_total q)
 
-abbrev is_among : TextTriple → List SignedTriple → Bool
-is_among q lines = list_any (eq_by_cmp triple_cmp q) (triples_of lines)
+below_is_other : (x y : SignedTriple) → line_cmp x y ≡ Less → is_line_of y.triple x ≡ false
+below_is_other x y less = ap is_eq (triple_cmp_total.antisymm y.triple x.triple ∙ ap ordering_reverse less)
 
-abbrev sign_found : Option SignedTriple → Bool
-sign_found o = is_added (option_map (λ line. line.sign) o)
+abbrev IsFirst : List SignedTriple → SignedTriple → Type 0
+IsFirst lines line = find (is_line_of line.triple) lines ≡ Some line
 
-line_here : (q : TextTriple) (x : SignedTriple) (rest : List SignedTriple) (b : Bool) → is_line_of q x ≡ true → is_among q rest ≡ false → is_among q (cond b (x ∷ rest) rest) ≡ b
-line_here q x rest true e none = ap (λ c. c || is_among q rest) e
-line_here q x rest false e none = none
-
-line_later : (q : TextTriple) (x : SignedTriple) (rest : List SignedTriple) (b : Bool) → is_line_of q x ≡ false → is_among q (cond b (x ∷ rest) rest) ≡ is_among q rest
-line_later q x rest true e = ap (λ c. c || is_among q rest) e
-line_later q x rest false e = refl
-
-any_added : (q : TextTriple) (lines : List SignedTriple) → IsStrictlySortedBy line_cmp lines → is_among q (filter adds lines) ≡ sign_found (find (is_line_of q) lines)
+each_is_first : (lines : List SignedTriple) → IsStrictlySortedBy line_cmp lines → AllByRecursion (IsFirst lines) lines
 unfolding IsStrictlySortedBy
-any_added q [] h = refl
-any_added q (x ∷ xs) h =
-    let later : is_among q (filter adds xs) ≡ sign_found (find (is_line_of q) xs) = any_added q xs h.1 in
-    elim (is_line_of q x) as (λ b. is_line_of q x ≡ b → is_among q (filter adds (x ∷ xs)) ≡ sign_found (cond b (Some x) (find (is_line_of q) xs))) [
-      | true ↦ λ e. line_here q x (filter adds xs) (adds x) e (later ∙ ap sign_found (none_above q x xs e h.0))
-      | false ↦ λ e. line_later q x (filter adds xs) (adds x) e ∙ later
-    ] refl
+each_is_first [] h = tt
+each_is_first (x ∷ xs) h = (ap (λ b. cond b (Some x) (find (is_line_of x.triple) xs)) (itself x.triple), later xs h.0 (each_is_first xs h.1))
+  where
+    later : (ys : List SignedTriple) → AllByRecursion (λ y. line_cmp x y ≡ Less) ys → AllByRecursion (IsFirst xs) ys → AllByRecursion (IsFirst (x ∷ xs)) ys
+    later [] above first = tt
+    later (y ∷ ys) above first = (ap (λ b. cond b (Some x) (find (is_line_of y.triple) xs)) (below_is_other x y above.0) ∙ first.0, later ys above.1 first.1)
 
 -- ---- the set
 
-is_found : (o : Option SignedTriple) → (is_some o && is_added (option_map (λ line. line.sign) o)) ≡ is_added (option_map (λ line. line.sign) o)
-is_found None = refl
-is_found (Some line) = refl
-
--- a body adds a triple exactly where its last sign is `Add`
-pub contains-added : (body : List SignedTriple) (q : TextTriple) → contains (added body) q ≡ is_added (last_sign body q)
-contains-added body q =
-    contains-retain triple_cmp (body_triples body) (λ triple. is_added (last_sign body triple)) q (λ x e. ap (λ t. is_added (last_sign body t)) (sym (triple_cmp-IsAntisymmetric q x e)))
-    ∙ ap (λ b. b && is_added (last_sign body q)) (
+-- a body names the triples of its lines
+contains-body_triples : (body : List SignedTriple) (q : TextTriple) → contains (body_triples body) q ≡ is_some (find (is_line_of q) (reverse body))
+contains-body_triples body q =
     contains-from_list triple_cmp triple_cmp_total (triples_of body) q
     ∙ list_any-map (eq_by_cmp triple_cmp q) (λ (line : SignedTriple). line.triple) body
     ∙ list_any-IsPermutation (is_line_of q) body (reverse body) (IsPermutation-reverse body)
     ∙ sym (is_some-find (is_line_of q) (reverse body))
-    )
-    ∙ is_found (find (is_line_of q) (reverse body))
 
-pub net_additions_are : (body sorted : List SignedTriple) → IsSorted line_cmp sorted → IsStable line_cmp (reverse body) sorted
-    → triples_of (filter adds (dedup is_same sorted)) ≡ members (added body)
-net_additions_are body sorted up stable =
-    let kept : List SignedTriple = dedup is_same sorted in
-    let rising : IsStrictlySortedBy line_cmp kept = IsStrictlySortedBy-dedup line_cmp_total (λ x y. refl) sorted up in
-    members_are triple_cmp triple_cmp_total triple_cmp-IsAntisymmetric (added body) (triples_of (filter adds kept))
-    (IsStrictlySortedBy-map triple_cmp (λ (line : SignedTriple). line.triple) (filter adds kept) (IsStrictlySortedBy-filter line_cmp adds kept rising))
-    (λ q. any_added q kept rising ∙ ap sign_found (find-kept q sorted ∙ find-stable (reverse body) sorted stable q) ∙ sym (contains-added body q))
+module _ (body sorted : List SignedTriple) (up : IsSorted line_cmp sorted) (stable : IsStable line_cmp (reverse body) sorted) where
+  abbrev kept : List SignedTriple
+  kept = dedup is_same sorted
+
+  rising : IsStrictlySortedBy line_cmp kept
+  rising = IsStrictlySortedBy-dedup line_cmp_total (λ x y. refl) sorted up
+
+  found : (q : TextTriple) → find (is_line_of q) kept ≡ find (is_line_of q) (reverse body)
+  found q = find-kept q sorted ∙ find-stable (reverse body) sorted stable q
+
+  -- the lines that are left have the triples that the body names
+  pub body_triples_are : triples_of kept ≡ members (body_triples body)
+  body_triples_are =
+      members_are triple_cmp triple_cmp_total triple_cmp-IsAntisymmetric (body_triples body) (triples_of kept)
+      (IsStrictlySortedBy-map triple_cmp (λ (line : SignedTriple). line.triple) kept rising)
+      (λ q. list_any-map (eq_by_cmp triple_cmp q) (λ (line : SignedTriple). line.triple) kept ∙ sym (is_some-find (is_line_of q) kept) ∙ ap is_some (found q) ∙ sym (contains-body_triples body q))
+
+  -- and their last signs
+  pub signs_are : All (λ line. last_sign body line.triple ≡ Some line.sign) kept
+  signs_are = All-weaker (IsFirst kept) (λ line. last_sign body line.triple ≡ Some line.sign)
+      (λ line first. ap (option_map (λ line. line.sign)) (sym (found line.triple) ∙ first))
+      kept (All-from_recursion (IsFirst kept) kept (each_is_first kept rising))

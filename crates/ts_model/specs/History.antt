@@ -56,6 +56,11 @@ content_of history (k ∷ below ∷ chain) = union (difference (content_of histo
 abbrev pub content_at : History → ℕ → SetOf triple_cmp
 content_at history k = content_of history (chain_of history k)
 
+-- the triples of a parent, and none where there is no parent
+abbrev pub content_at_parent : History → Option ℕ → SetOf triple_cmp
+content_at_parent history None = empty
+content_at_parent history (Some k) = content_at history k
+
 -- the triples of a layer's parent, and none where it has no parent
 abbrev pub content_below : History → ℕ → SetOf triple_cmp
 content_below history k = content_of history (chain_within k history (parent_at history k))

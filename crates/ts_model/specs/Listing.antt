@@ -6,9 +6,9 @@ use Rattle.std.specs.Cmp.Lexicographic.{slice_cmp}
 use Rattle.ts_model.specs.declared.pattern.Pattern.{Pattern}
 use Rattle.ts_model.specs.TextTerm.{TextTerm}
 use Rattle.ts_model.specs.TextTriple.{TextTriple}
-use Rattle.ts_model.specs.Order.{kind_place}
+use Rattle.ts_model.specs.Order.{kind_place, triple_cmp}
 use Rattle.ts_model.specs.Fits.{fits}
-use Rattle.ts_model.specs.Sets.{members, from_list}
+use Rattle.ts_model.specs.Sets.{SetOf, members, from_list}
 use Rattle.ts_model.specs.History.{History, content_at}
 use Rattle.ts_model.specs.Birth.{birth_of}
 
@@ -24,9 +24,13 @@ birth_cmp history k =
     then_cmp (on (λ triple. triple.subject) (key_cmp history k))
     (then_cmp (on (λ triple. triple.predicate) (key_cmp history k)) (on (λ triple. triple.object) (key_cmp history k)))
 
--- the triples of the layer, each once, in birth order
+-- triples in birth order at a layer, each once
+abbrev pub in_birth_order : History → ℕ → SetOf triple_cmp → List TextTriple
+in_birth_order history k triples = members (from_list {R = birth_cmp history k} (members triples))
+
+-- the triples of the layer in birth order
 abbrev pub listing : History → ℕ → List TextTriple
-listing history k = members (from_list {R = birth_cmp history k} (members (content_at history k)))
+listing history k = in_birth_order history k (content_at history k)
 
 -- those of them that fit
 abbrev pub select : History → ℕ → Pattern → List TextTriple

@@ -2,13 +2,13 @@
 //!
 //! A [`Term`] is a kind and its canonical spelling, as [`is_canonical`] decides it; a [`Triple`] is three of them, and
 //! both are ordered by their bytes; a [`Pattern`] takes some triples. [`split_char`], [`after_label`] and [`after_tag`]
-//! read the front of a text. A body is a list of [`SignedTriple`], and [`net_additions`] is what it adds to a new base, of which [`totals_of`]
-//! counts the terms. [`LabelName`] and [`CursorName`] are the names of labels and of cursors, and [`layer_text`] writes a
-//! layer's number.
+//! read the front of a text. A body is a list of [`SignedTriple`], and [`last_signs`] gives the last line of each triple that
+//! it names. [`totals_of`] counts the terms of triples. [`LabelName`] and [`CursorName`] are the names of labels and of
+//! cursors, and [`layer_text`] writes a layer's number.
 //!
 //! In contracts a term is its kind and its spelling, a triple is three such terms, and a set of triples has one rising
-//! list of members. The layer above uses that `net_additions` gives exactly the members of the set that the body adds:
-//! of the lines of a triple, the last one decides.
+//! list of members. The layer above uses that `last_signs` gives exactly the triples that a body names, each once, with
+//! the sign that decides: that of the last line that names it.
 #![tactic(auto)]
 
 pub use canonical::is_canonical;
@@ -18,7 +18,7 @@ pub use label::after_label;
 pub use label_name::LabelName;
 pub use layer::{layer_number, layer_text};
 pub use limits::{NUMBER_LIMIT, TERM_LIMIT};
-pub use net::net_additions;
+pub use net::last_signs;
 pub use pattern::Pattern;
 pub use signed::{Sign, SignedTriple};
 pub use tag::after_tag;

@@ -2,7 +2,7 @@ ghost use Rattle.std.specs.Prelude.{◌≡◌, ◌≢◌, ◌<◌, ◌^◌, IfOk
 
 use crate::{
     CursorName, LabelName, Pattern, Sign, SignedTriple, Term, TermError, TermKind, Triple,
-    is_canonical, layer_number, layer_text, net_additions, totals_of,
+    is_canonical, last_signs, layer_number, layer_text, totals_of,
 };
 use std::alloc::{AllocError, Global};
 use std::test::Fail;
@@ -23,7 +23,7 @@ fn triple_a(alloc: Global) -> Result<Triple, AllocError> {
 }
 
 #[test]
-fn net_additions_and_totals_with_ample_memory(rt: HostRuntime) -> Result<(), Fail> {
+fn last_signs_and_totals_with_ample_memory(rt: HostRuntime) -> Result<(), Fail> {
     let alloc = rt.alloc();
     let body = vec![in alloc;
         SignedTriple {
@@ -39,9 +39,8 @@ fn net_additions_and_totals_with_ample_memory(rt: HostRuntime) -> Result<(), Fai
             triple: triple_a(alloc)?
         },
     ]?;
-    let additions = net_additions(alloc, &body)?;
-    assert_eq!(rt; additions.len(), 1);
-    let totals = totals_of(alloc, additions.as_slice())?;
+    assert_eq!(rt; last_signs(alloc, &body)?.len(), 1);
+    let totals = totals_of(alloc, &[&body[0].triple, &body[2].triple])?;
     assert_eq!(rt; totals.terms, 1);
     assert_eq!(rt; totals.predicates, 1);
     Ok(())

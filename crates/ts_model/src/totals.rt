@@ -14,10 +14,11 @@ pub struct Totals {
     pub predicates: u64,
 }
 
-/// The totals of a base layer of these triples.
-pub fn totals_of(alloc: Global, triples: &[Triple]) -> Result<Totals, AllocError>
-    ensures terms { IfOk result (λ totals. totals.terms ≡ term_count triples.now) }
-    ensures predicates { IfOk result (λ totals. totals.predicates ≡ predicate_count triples.now) }
+/// The totals of a layer that has the terms of these triples.
+pub fn totals_of(alloc: Global, triples: &[&Triple]) -> Result<Totals, AllocError>
+    ensures terms { IfOk result (λ totals. totals.terms ≡ term_count (map (λ triple. triple.now) triples.now)) }
+    ensures predicates { IfOk result (λ totals.
+        totals.predicates ≡ predicate_count (map (λ triple. triple.now) triples.now)) }
 {
     let terms = nodes_and_values(alloc, triples)?;
     let predicates = predicates(alloc, triples)?;
@@ -27,9 +28,9 @@ pub fn totals_of(alloc: Global, triples: &[Triple]) -> Result<Totals, AllocError
     })
 }
 
-fn nodes_and_values(alloc: Global, triples: &[Triple]) -> Result<Vec<&Term>, AllocError>
-    ensures { IfOk result (λ terms.
-        map (λ term. term.now) terms.items ≡ flat_map (λ triple. triple.subject ∷ triple.object ∷ []) triples.now) }
+fn nodes_and_values<'a>(alloc: Global, triples: &[&'a Triple]) -> Result<Vec<&'a Term>, AllocError>
+    ensures { IfOk result (λ terms. map (λ term. term.now) terms.items
+        ≡ flat_map (λ triple. triple.now.subject ∷ triple.now.object ∷ []) triples.now) }
 {
     let mut terms = Vec::new(alloc);
     for triple in triples {
@@ -39,9 +40,9 @@ fn nodes_and_values(alloc: Global, triples: &[Triple]) -> Result<Vec<&Term>, All
     Ok(terms)
 }
 
-fn predicates(alloc: Global, triples: &[Triple]) -> Result<Vec<&Term>, AllocError>
+fn predicates<'a>(alloc: Global, triples: &[&'a Triple]) -> Result<Vec<&'a Term>, AllocError>
     ensures { IfOk result (λ terms.
-        map (λ term. term.now) terms.items ≡ map (λ triple. triple.predicate) triples.now) }
+        map (λ term. term.now) terms.items ≡ map (λ triple. triple.now.predicate) triples.now) }
 {
     let mut terms = Vec::new(alloc);
     for triple in triples {

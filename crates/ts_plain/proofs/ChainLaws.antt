@@ -1,5 +1,5 @@
 -- What layers that are a chain hold and bear is what the history says.
-use Rattle.std.proofs.Common.{◌≡◌, ◌<◌, ℕ, suc, IsTrue, true≢false, cond, IfSome, IfNone, Bool, false, not, ◌&&◌, ◌||◌, List, [], ◌∷◌, ◌++◌, map, reverse, Option, Some, None, All, refl, sym, ap, ◌∙◌, subst}
+use Rattle.std.proofs.Common.{◌≡◌, ◌<◌, ℕ, suc, ◌+◌, IsTrue, true≢false, cond, IfSome, IfNone, Bool, false, not, ◌&&◌, ◌||◌, List, [], ◌∷◌, ◌++◌, map, reverse, Option, Some, None, All, refl, sym, ap, ◌∙◌, subst}
 use Rattle.std.specs.List.{list_any}
 use Rattle.std.specs.Option.{option_map, is_some}
 use Rattle.std.specs.FinMap.{empty, get, contains_key}
@@ -10,6 +10,7 @@ use Rattle.std.specs.List.Sorted.{IsPermutation}
 use denote.Ref.{Bor}
 use Rattle.std.proofs.lemmas.List.Sorted.{All-permutation, IsPermutation-reverse}
 use Rattle.ts_model.specs.TextTerm.{TextTerm}
+use Rattle.ts_model.specs.TextTriple.{TextTriple}
 use Rattle.ts_model.specs.Birth.{has_term, mentions, first_place, birth_of}
 use Rattle.ts_model.specs.Order.{triple_cmp, triple_cmp_total, triple_cmp-IsAntisymmetric}
 use Rattle.ts_model.specs.Sets.{members, from_list, union, difference}
@@ -33,6 +34,11 @@ map-reverse f (x ∷ xs) =
 abbrev pub number_of : Option (Bor PlainLayer) → Option ℕ
 number_of None = None
 number_of (Some layer) = Some layer.now.number
+
+-- numbers fall towards the base, so that a climb ends
+abbrev pub left : Option (Bor PlainLayer) → ℕ
+left None = 0
+left (Some layer) = layer.now.number + 1
 
 module _ (history : History) where
   added : (layer : PlainLayer) → StandsIn history layer → additions_at history layer.number ≡ from_list layer.additions.items
@@ -90,29 +96,45 @@ module _ (history : History) where
     pub birth_over-chain : (term : TextTerm) → birth_over layers term ≡ birth_of history number term
     birth_over-chain term = first_same term layers chain.stand ∙ ap (first_place (mentions history term)) chain.numbers
 
-  -- the parent of a layer stands
-  pub IfNone-parent : IsWellKept history → (layer : PlainLayer) (parent : ℕ) → StandsIn history layer → layer.parent ≡ Some parent
-      → (found : Option (Bor PlainLayer)) → IfNone found (get history parent ≡ None) → IfNone found (layer.parent ≡ None)
-  IfNone-parent kept layer parent stands is None none =
-      let below : IfSome (Some parent) (λ p. (p < layer.number) × IsTrue (contains_key history p)) =
-      subst (λ o. IfSome o (λ p. (p < layer.number) × IsTrue (contains_key history p))) is (kept layer.number (record_of layer) stands.recorded).parent in
-      absurd (true≢false (sym below.1 ∙ ap is_some none))
-  IfNone-parent kept layer parent stands is (Some found) none = tt
+  -- what a chain that was lent holds
+  pub members-chain : (number : ℕ) (chain lent : List (Bor PlainLayer)) (content : List (Bor TextTriple)) → IsChain history number (map (λ layer. layer.now) chain) → lent ≡ chain
+      → map (λ triple. triple.now) content ≡ members (content_over (map (λ layer. layer.now) lent)) → map (λ triple. triple.now) content ≡ members (content_at history number)
+  members-chain number chain lent content is same held =
+      held
+      ∙ ap (λ layers. members (content_over (map (λ layer. layer.now) layers))) same
+      ∙ ap members (content_over-chain number (map (λ layer. layer.now) chain) is)
 
-  pub parent_stands : (layer : PlainLayer) (o : Option (Bor PlainLayer)) → IfSome o (λ p. (layer.parent ≡ Some p.now.number) × StandsIn history p.now) → IfSome o (λ p. StandsIn history p.now)
-  parent_stands layer None h = tt
-  parent_stands layer (Some p) h = h.1
+  -- the parent of a layer stands
+  pub IfSome-parent : IsWellKept history → (layer : PlainLayer) → StandsIn history layer → IfSome layer.parent (λ p. IsTrue (contains_key history p))
+  IfSome-parent kept layer stands = there layer.parent (kept layer.number (record_of layer) stands.recorded).parent
+    where
+      there : (o : Option ℕ) → IfSome o (λ p. (p < layer.number) × IsTrue (contains_key history p)) → IfSome o (λ p. IsTrue (contains_key history p))
+      there None h = tt
+      there (Some p) h = h.1
+
+  -- a layer that stands is found
+  pub IfNone-standing : (number : Option ℕ) (k : ℕ) → IfSome number (λ k. IsTrue (contains_key history k)) → number ≡ Some k
+      → (found : Option (Bor PlainLayer)) → IfNone found (get history k ≡ None) → IfNone found (number ≡ None)
+  IfNone-standing number k stands is None none =
+      let there : IsTrue (contains_key history k) = subst (λ o. IfSome o (λ k. IsTrue (contains_key history k))) is stands in
+      absurd (true≢false (sym there ∙ ap is_some none))
+  IfNone-standing number k stands is (Some found) none = tt
+
+  pub parent_stands : (parent : Option ℕ) (o : Option (Bor PlainLayer)) → IfSome o (λ p. (parent ≡ Some p.now.number) × StandsIn history p.now) → IfSome o (λ p. StandsIn history p.now)
+  parent_stands parent None h = tt
+  parent_stands parent (Some p) h = h.1
+
+  -- the parent, as it was looked up
+  pub number-of_parent : (o : Option (Bor PlainLayer)) (parent : Option ℕ) → IfSome o (λ p. (parent ≡ Some p.now.number) × StandsIn history p.now) → IfNone o (parent ≡ None)
+      → number_of o ≡ parent
+  number-of_parent None parent some none = sym none
+  number-of_parent (Some p) parent some none = sym some.0
 
   -- ---- the way up, one layer at a time
 
   module _ (kept : IsWellKept history) (number : ℕ) (items : List (Bor PlainLayer)) where
     abbrev climbed : List (Bor PlainLayer) → List ℕ
     climbed layers = map (λ layer. layer.now.number) layers
-
-    number-of_parent : (o : Option (Bor PlainLayer)) (parent : Option ℕ) → IfSome o (λ p. (parent ≡ Some p.now.number) × StandsIn history p.now) → IfNone o (parent ≡ None)
-        → number_of o ≡ parent
-    number-of_parent None parent some none = sym none
-    number-of_parent (Some p) parent some none = sym some.0
 
     pub climb : (layer : Bor PlainLayer) (o next : Option (Bor PlainLayer)) → o ≡ Some layer → StandsIn history layer.now
         → IfSome next (λ p. (layer.now.parent ≡ Some p.now.number) × StandsIn history p.now) → IfNone next (layer.now.parent ≡ None)

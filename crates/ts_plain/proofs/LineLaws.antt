@@ -9,7 +9,8 @@ use Rattle.ts_model.specs.TextTriple.{TextTriple, IsTriple}
 use Rattle.ts_nt.specs.LineRead.{IsReadAs, IsSilent, IsBad, IsTooLong, IsWithinLimits, Spells}
 use Rattle.ts_nt.specs.TripleLine.{triple_line}
 use Rattle.ts_nt.proofs.PrintLaws.{printed_line, printed_ends, printed_reads_as}
-use Rattle.ts_nt.proofs.TripleLaws.{text_once, silent_is_none}
+use Rattle.ts_nt.proofs.TripleLaws.{text_canonical, text_once, silent_is_none}
+use Rattle.ts_nt.proofs.ScalarLaws.{All-chars}
 use Rattle.ts_plain.specs.PlainFile.{change_line, change_lines}
 use Rattle.ts_plain.specs.PlainReading.{HasNoEnd, HasNoSign}
 use Rattle.ts_plain.proofs.EndLaws.{line_text, line_ends, text_has_no_end}
@@ -46,6 +47,12 @@ reads_back triple text is_triple is =
     let reads = printed_reads_as triple is_triple.0 (is_triple.1.0, is_triple.2.0, is_triple.3.0) (is_triple.1.1, is_triple.2.1, is_triple.3.1) in
     let same : printed_line triple ≡ text = append_cancel_right (printed_line triple) text (0x0A ∷ []) (sym (printed_ends triple) ∙ is) in
     subst (λ t. IsReadAs t (record { sign = Add; triple = triple })) same reads
+
+-- what a text reads as is a triple
+pub read_triple : (text : List ℕ) (signed : SignedTriple) → IsReadAs text signed → IsTriple signed.triple
+read_triple text signed read =
+    let terms = text_canonical (chars text) signed.sign signed.triple (All-chars text read.1.0) read.1.1 in
+    (read.1.1.kinds, (terms.0, read.2.0), (terms.1, read.2.1), (terms.2, read.2.2))
 
 pub spells_one : (text : List ℕ) (a b : Sign) (f g : TextTriple) → Spells text a f → Spells text b g → f ≡ g
 spells_one text a b f g one other = (text_once (chars text) a b f g one.1 other.1).1

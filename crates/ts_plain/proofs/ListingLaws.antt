@@ -14,13 +14,14 @@ use Rattle.std.proofs.lemmas.Map.Keys.{IsDistinct-from_sorted, IsDistinct-IsPerm
 use Rattle.ts_model.specs.declared.term.TermKind.TheVariants.{Node}
 use Rattle.ts_model.specs.TextTriple.{TextTriple}
 use Rattle.ts_model.specs.TextTerm.{TextTerm}
-use Rattle.ts_model.specs.History.{History, content_at}
+use Rattle.ts_model.specs.History.{History}
 use Rattle.ts_model.specs.Birth.{birth_of}
-use Rattle.ts_model.specs.Listing.{birth_cmp, listing}
-use Rattle.ts_model.specs.Order.{kind_place, triple_cmp, triple_cmp_total}
+use Rattle.ts_model.specs.Listing.{birth_cmp, in_birth_order}
+use Rattle.ts_model.specs.Order.{kind_place, triple_cmp, triple_cmp_total, triple_cmp-IsAntisymmetric}
 use Rattle.ts_model.specs.Sets.{members, from_list}
 use Rattle.ts_model.proofs.BirthOrder.{birth_cmp_total, birth_cmp-IsAntisymmetric}
-use Rattle.ts_model.proofs.SetLaws.{contains-from_list, members_are, IsStrictlySortedBy-members}
+use Rattle.ts_model.proofs.SetLaws.{contains-from_list, members_are}
+use Rattle.ts_model.proofs.SetAlgebra.{members-from_rising}
 use Rattle.ts_plain.specs.declared.listing.Keyed.{Keyed}
 use Rattle.ts_plain.specs.Keys.{IsKeyed, born_cmp, keyed_cmp}
 
@@ -85,8 +86,8 @@ module _ (history : History) (number : ℕ) where
   abbrev some_keyed : TextTriple → Keyed
   some_keyed triple = record { triple = record { ref_ptr = (0, 0); now = triple }; subject = 0; predicate = 0; object = 0 }
 
-  in_birth_order : (keyed : List Keyed) → All (IsKeyed birth) keyed → IsSorted keyed_cmp keyed → IsSorted (birth_cmp history number) (map triple_of keyed)
-  in_birth_order keyed keys sorted = λ k d _ below.
+  sorted_by_births : (keyed : List Keyed) → All (IsKeyed birth) keyed → IsSorted keyed_cmp keyed → IsSorted (birth_cmp history number) (map triple_of keyed)
+  sorted_by_births keyed keys sorted = λ k d _ below.
       let same : length (map triple_of keyed) ≡ length keyed = length-map keyed triple_of in
       let e = some_keyed d in
       let here : k < length keyed = omega arith in
@@ -95,10 +96,12 @@ module _ (history : History) (number : ℕ) where
       ∙ ap is_lt (sym (keyed_cmp-is (get_or keyed (k + 1) e) (get_or keyed k e) (keys (k + 1) e next) (keys k e here)))
       ∙ sorted k e (omega arith) next
 
-  pub listing_is : (keyed sorted : List Keyed) → map triple_of keyed ≡ members (content_at history number) → All (IsKeyed birth) keyed → IsPermutation keyed sorted → IsSorted keyed_cmp sorted
-      → map triple_of sorted ≡ listing history number
-  listing_is keyed sorted content keys moved up =
-      members-sorted (birth_cmp_total history number) (birth_cmp-IsAntisymmetric history number) (members (content_at history number)) (map triple_of sorted) some_triple triple_cmp_total
-      (IsStrictlySortedBy-members triple_cmp (content_at history number))
-      (subst (λ triples. IsPermutation triples (map triple_of sorted)) content (IsPermutation-map triple_of keyed sorted moved))
-      (in_birth_order sorted (All-permutation (IsKeyed birth) keyed sorted moved keys) up)
+  -- triples that rise, sorted by their births
+  pub sorted_is : (keyed sorted : List Keyed) (triples : List TextTriple) → map triple_of keyed ≡ triples → IsStrictlySortedBy triple_cmp triples
+      → All (IsKeyed birth) keyed → IsPermutation keyed sorted → IsSorted keyed_cmp sorted → map triple_of sorted ≡ in_birth_order history number (from_list triples)
+  sorted_is keyed sorted triples these rise keys moved up =
+      members-sorted (birth_cmp_total history number) (birth_cmp-IsAntisymmetric history number) triples (map triple_of sorted) some_triple triple_cmp_total
+      rise
+      (subst (λ l. IsPermutation l (map triple_of sorted)) these (IsPermutation-map triple_of keyed sorted moved))
+      (sorted_by_births sorted (All-permutation (IsKeyed birth) keyed sorted moved keys) up)
+      ∙ ap (λ l. members (from_list {R = birth_cmp history number} l)) (sym (members-from_rising triple_cmp triple_cmp_total triple_cmp-IsAntisymmetric triples rise))

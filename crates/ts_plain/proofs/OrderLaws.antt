@@ -20,7 +20,7 @@ module _ {X : Type 0} (R : X → X → Ordering) where
   above_more x y [] h k = (k, tt)
   above_more x y (z ∷ zs) h k = (h.0, above_more x y zs h.1 k)
 
-  above_last : (x y : X) (xs behind : List X) → Above x (xs ++ y ∷ behind) → R x y ≡ Less
+  pub above_last : (x y : X) (xs behind : List X) → Above x (xs ++ y ∷ behind) → R x y ≡ Less
   above_last x y [] behind h = h.0
   above_last x y (z ∷ zs) behind h = above_last x y zs behind h.1
 

@@ -1,226 +1,212 @@
--- A worked history: a base of two triples, a layer that removes the first and adds a third, and one that adds the first again.
-use Rattle.std.proofs.Common.{◌≡◌, ℕ, zero, suc, Bool, true, false, not, ◌&&◌, ◌||◌, cond, List, [], ◌∷◌, Option, Some, None, Contains, IsTrue, refl, sym, ap, ◌∙◌, subst, true≢false, unwrap_or, arith}
-use Rattle.std.specs.Option.{is_some, option_map, option_and_then}
-use Rattle.std.specs.declared.cmp.Ordering.TheVariants.{Less}
-use Rattle.std.specs.Ordering.{nat_cmp, eq_by_cmp, is_eq}
-use Rattle.std.specs.Cmp.{Equal-is, tied_itself, nat_cmp_total, eq_by_cmp_equiv}
-use Rattle.std.specs.List.{AllByRecursion}
+-- Five layers, on which the definitions of a history are tried. Layer 3 has no changes; 2 and 5 are children of 1, so the
+-- parent of 5 isn't the number before it; `<c>`, which layer 2 leaves without a triple, comes back in layer 4; and one
+-- spelling is a node and a predicate, and stands in a value.
+use Rattle.std.proofs.Common.{◌≡◌, ℕ, Bool, true, false, not, ◌&&◌, ◌||◌, List, [], ◌∷◌, codes, reverse, Option, Some, None, refl, ap, ◌∙◌}
+use Rattle.std.specs.Option.{option_map, option_and_then}
+use Rattle.std.specs.List.{list_any}
 use Rattle.std.specs.List.Sorted.{IsStrictlySortedBy}
-use Rattle.std.specs.FinMap.{empty, find, get, contains_key, from_entries, get-from_entries, nat_cmp-IsAntisymmetric}
-use Rattle.std.proofs.lemmas.List.Elements.{All-cons, All-nil}
-use Rattle.ts_model.specs.TextTriple.{TextTriple, IsTriple}
+use Rattle.std.specs.Ordering.{nat_cmp}
+use Rattle.std.specs.Cmp.{nat_cmp_total}
+use Rattle.std.specs.FinMap.{find, get, from_entries, get-from_entries}
+use Rattle.ts_model.specs.declared.signed.Sign.TheVariants.{Add, Remove}
+use Rattle.ts_model.specs.declared.term.TermKind.TheVariants.{Node, Predicate, Value}
+use Rattle.ts_model.specs.TextTerm.{TextTerm}
+use Rattle.ts_model.specs.TextTriple.{TextTriple}
 use Rattle.ts_model.specs.Order.{triple_cmp, triple_cmp_total, triple_cmp-IsAntisymmetric}
-use Rattle.ts_model.specs.Sets.{contains, from_list, union, difference}
-use Rattle.ts_model.specs.History.{LayerRecord, History, IsWellKept, IsLayerKept, parent_at, additions_at, removals_at, set_or_none, chain_within, content_of, content_below}
+use Rattle.ts_model.specs.Sets.{SetOf, contains, members, from_list, union, difference}
+use Rattle.ts_model.specs.History.{LayerRecord, History, set_or_none, additions_at, removals_at, chain_within, chain_of, content_of, content_at}
+use Rattle.ts_model.specs.Birth.{has_term, mentions, first_place, birth_of}
+use Rattle.ts_model.specs.NetChange.{last_sign}
 use Rattle.ts_model.proofs.SetLaws.{contains-from_list}
-use Rattle.ts_model.proofs.SetAlgebra.{contains-empty, contains-union, contains-difference}
-use Rattle.ts_plain.specs.declared.write.PlainLayer.{PlainLayer}
-use Rattle.ts_plain.specs.PlainRules.{KeepsPlainRules}
-use Rattle.ts_plain.specs.History.{entry_of, history_of, LayerKeepsRules, AreHistory}
+use Rattle.ts_model.proofs.SetAlgebra.{contains-union, contains-difference, members-from_rising}
 use Rattle.ts_plain.proofs.LayerLaws.{is_among}
 
--- ---- a history of given entries
+abbrev node : ℕ → TextTerm
+node letter = record { kind = Node; spelling = 0x3C ∷ letter ∷ 0x3E ∷ [] }
 
-find_holds : (P : ℕ → LayerRecord → Type 0) (es : List (ℕ × LayerRecord)) → AllByRecursion (λ e. P e.0 e.1) es → (k : ℕ) (layer : LayerRecord) → find nat_cmp k es ≡ Some layer → P k layer
-find_holds P [] all k layer is = let none : ⊥ = cc in absurd none
-find_holds P (e ∷ es) all k layer is =
-    elim (eq_by_cmp nat_cmp k e.0) as (λ b. eq_by_cmp nat_cmp k e.0 ≡ b → cond b (Some e.1) (find nat_cmp k es) ≡ Some layer → P k layer) [
-      | true ↦ λ t here.
-          let number : e.0 ≡ k = sym (nat_cmp-IsAntisymmetric k e.0 ((Equal-is (nat_cmp k e.0)).0 t)) in
-          let record_is : e.1 ≡ layer = ap (λ o. unwrap_or o e.1) here in
-          subst (P k) record_is (subst (λ n. P n e.1) number all.0)
-      | false ↦ λ t later. find_holds P es all.1 k layer later
-    ] refl is
+abbrev predicate : ℕ → TextTerm
+predicate letter = record { kind = Predicate; spelling = 0x3C ∷ letter ∷ 0x3E ∷ [] }
 
-IsWellKept-from_entries : (es : List (ℕ × LayerRecord)) → AllByRecursion (λ e. IsLayerKept (from_entries es) e.0 e.1) es → IsWellKept (from_entries es)
-IsWellKept-from_entries es all k layer is = find_holds (IsLayerKept (from_entries es)) es all k layer (sym (get-from_entries nat_cmp_total es k) ∙ is)
+-- `"<q>"`
+abbrev value_q : TextTerm
+value_q = record { kind = Value; spelling = codes "\"<q>\"" }
 
--- ---- the three layers
+abbrev edge : ℕ → ℕ → TextTriple
+edge subject object = record { subject = node subject; predicate = predicate 0x70; object = node object }
 
-among : (triples : List TextTriple) (q : TextTriple) → contains (from_list {R = triple_cmp} triples) q ≡ is_among triples q
-among triples q = contains-from_list triple_cmp triple_cmp_total triples q
+abbrev c_b : TextTriple
+c_b = edge 0x63 0x62
 
--- what a list of triples has is a triple
-triple_in : (triples : List TextTriple) → AllByRecursion IsTriple triples → (q : TextTriple) → contains (from_list {R = triple_cmp} triples) q ≡ true → IsTriple q
-triple_in triples all q is = found triples all (sym (among triples q) ∙ is)
-  where
-    found : (triples : List TextTriple) → AllByRecursion IsTriple triples → is_among triples q ≡ true → IsTriple q
-    found [] all is = absurd (true≢false (sym is))
-    found (f ∷ triples) all is =
-        elim (eq_by_cmp triple_cmp q f) as (λ b. eq_by_cmp triple_cmp q f ≡ b → (b || is_among triples q) ≡ true → IsTriple q) [
-          | true ↦ λ here _. subst IsTriple (sym (triple_cmp-IsAntisymmetric q f ((Equal-is (triple_cmp q f)).0 here))) all.0
-          | false ↦ λ there later. found triples all.1 later
-        ] refl is
+abbrev a_b : TextTriple
+a_b = edge 0x61 0x62
 
-same_triple : (q x : TextTriple) → contains (from_list {R = triple_cmp} (x ∷ [])) q ≡ true → x ≡ q
-same_triple q x is = sym (triple_cmp-IsAntisymmetric q x ((Equal-is (triple_cmp q x)).0 (sym (or_false (eq_by_cmp triple_cmp q x)) ∙ sym (among (x ∷ []) q) ∙ is)))
-  where
-    or_false : (b : Bool) → (b || false) ≡ b
-    or_false true = refl
-    or_false false = refl
+abbrev a_d : TextTriple
+a_d = edge 0x61 0x64
 
-itself : (x : TextTriple) → eq_by_cmp triple_cmp x x ≡ true
-itself x = ap is_eq (tied_itself triple_cmp_total x)
+abbrev c_d : TextTriple
+c_d = edge 0x63 0x64
 
-not_empty : (q : TextTriple) → contains (empty {X = Unit {0}} {R = triple_cmp}) q ≡ true → ⊥
-not_empty q is = true≢false (sym is ∙ contains-empty triple_cmp q)
+-- `<q> <q> "<q>"`
+abbrev q_q : TextTriple
+q_q = record { subject = node 0x71; predicate = predicate 0x71; object = value_q }
 
-module _ (x y z : TextTriple) (x_y : triple_cmp x y ≡ Less) (z_x : eq_by_cmp triple_cmp z x ≡ false) (z_y : eq_by_cmp triple_cmp z y ≡ false) where
-  abbrev base : LayerRecord
-  base = record { parent = None; additions = from_list (x ∷ y ∷ []); removals = empty }
+abbrev layer : Option ℕ → List TextTriple → List TextTriple → LayerRecord
+layer parent additions removals = record { parent = parent; additions = from_list additions; removals = from_list removals }
 
-  abbrev middle : LayerRecord
-  middle = record { parent = Some 1; additions = from_list (z ∷ []); removals = from_list (x ∷ []) }
+abbrev entries : List (ℕ × LayerRecord)
+entries =
+    (1, layer None (c_b ∷ q_q ∷ []) []) ∷ (2, layer (Some 1) (a_b ∷ []) (c_b ∷ [])) ∷ (3, layer (Some 2) [] [])
+    ∷ (4, layer (Some 3) (a_d ∷ c_d ∷ []) []) ∷ (5, layer (Some 1) [] (q_q ∷ [])) ∷ []
 
-  abbrev last : LayerRecord
-  last = record { parent = Some 2; additions = from_list (x ∷ []); removals = empty }
+abbrev five : History
+five = from_entries entries
 
-  abbrev entries_of : List (ℕ × LayerRecord)
-  entries_of = (1, base) ∷ (2, middle) ∷ (3, last) ∷ []
+at : (k : ℕ) → get five k ≡ find nat_cmp k entries
+at k = get-from_entries nat_cmp_total entries k
 
-  abbrev pub story : History
-  story = from_entries entries_of
+abbrev parent_in : Option LayerRecord → Option ℕ
+parent_in = option_and_then (λ layer. layer.parent)
 
-  at : (k : ℕ) → get story k ≡ find nat_cmp k entries_of
-  at k = get-from_entries nat_cmp_total entries_of k
+pub chain_of_4 : chain_of five 4 ≡ 4 ∷ 3 ∷ 2 ∷ 1 ∷ []
+chain_of_4 =
+    ap (λ o. 4 ∷ chain_within 3 five (parent_in o)) (at 4)
+    ∙ ap (λ o. 4 ∷ 3 ∷ chain_within 2 five (parent_in o)) (at 3)
+    ∙ ap (λ o. 4 ∷ 3 ∷ 2 ∷ chain_within 1 five (parent_in o)) (at 2)
+    ∙ ap (λ o. 4 ∷ 3 ∷ 2 ∷ 1 ∷ chain_within 0 five (parent_in o)) (at 1)
 
-  abbrev parent_in : Option LayerRecord → Option ℕ
-  parent_in = option_and_then (λ layer. layer.parent)
+pub chain_of_5 : chain_of five 5 ≡ 5 ∷ 1 ∷ []
+chain_of_5 = ap (λ o. 5 ∷ chain_within 4 five (parent_in o)) (at 5) ∙ ap (λ o. 5 ∷ 1 ∷ chain_within 3 five (parent_in o)) (at 1)
 
-  chain_2 : chain_within 2 story (parent_at story 2) ≡ 1 ∷ []
-  chain_2 = ap (λ o. chain_within 2 story (parent_in o)) (at 2) ∙ ap (λ o. 1 ∷ chain_within 1 story (parent_in o)) (at 1)
+added : (k : ℕ) → additions_at five k ≡ set_or_none (option_map (λ layer. layer.additions) (find nat_cmp k entries))
+added k = ap (λ o. set_or_none (option_map (λ layer. layer.additions) o)) (at k)
 
-  chain_3 : chain_within 3 story (parent_at story 3) ≡ 2 ∷ 1 ∷ []
-  chain_3 =
-      ap (λ o. chain_within 3 story (parent_in o)) (at 3)
-      ∙ ap (λ o. 2 ∷ chain_within 2 story (parent_in o)) (at 2)
-      ∙ ap (λ o. 2 ∷ 1 ∷ chain_within 1 story (parent_in o)) (at 1)
+removed : (k : ℕ) → removals_at five k ≡ set_or_none (option_map (λ layer. layer.removals) (find nat_cmp k entries))
+removed k = ap (λ o. set_or_none (option_map (λ layer. layer.removals) o)) (at k)
 
-  added : (k : ℕ) → additions_at story k ≡ set_or_none (option_map (λ layer. layer.additions) (find nat_cmp k entries_of))
-  added k = ap (λ o. set_or_none (option_map (λ layer. layer.additions) o)) (at k)
+-- ---- births
 
-  removed : (k : ℕ) → removals_at story k ≡ set_or_none (option_map (λ layer. layer.removals) (find nat_cmp k entries_of))
-  removed k = ap (λ o. set_or_none (option_map (λ layer. layer.removals) o)) (at k)
+listed : (triples : List TextTriple) → IsStrictlySortedBy triple_cmp triples → members (from_list {R = triple_cmp} triples) ≡ triples
+listed triples rise = members-from_rising triple_cmp triple_cmp_total triple_cmp-IsAntisymmetric triples rise
 
-  below_1 : content_below story 1 ≡ empty
-  below_1 = ap (λ o. content_of story (chain_within 1 story (parent_in o))) (at 1)
+none : members (from_list {R = triple_cmp} []) ≡ []
+unfolding IsStrictlySortedBy
+none = listed [] tt
 
-  below_2 : content_below story 2 ≡ from_list (x ∷ y ∷ [])
-  below_2 = ap (content_of story) chain_2 ∙ added 1
+one : (triple : TextTriple) → members (from_list {R = triple_cmp} (triple ∷ [])) ≡ triple ∷ []
+unfolding IsStrictlySortedBy
+one triple = listed (triple ∷ []) (tt, tt)
 
-  below_3 : content_below story 3 ≡ union (difference (from_list (x ∷ y ∷ [])) (from_list (x ∷ []))) (from_list (z ∷ []))
-  below_3 = ap (content_of story) chain_3 ∙ (λ i. union (difference (added 1 i) (removed 2 i)) (added 2 i))
+first_two : members (from_list {R = triple_cmp} (c_b ∷ q_q ∷ [])) ≡ c_b ∷ q_q ∷ []
+unfolding IsStrictlySortedBy
+first_two = listed (c_b ∷ q_q ∷ []) ((refl, tt), (tt, tt))
 
-  kept_1 : IsTriple x → IsTriple y → IsLayerKept story 1 base
-  kept_1 is_x is_y = record {
-    number = (omega arith, omega arith);
-    triples = triple_in (x ∷ y ∷ []) (is_x, (is_y, tt));
-    parent = tt;
-    base = λ none. refl;
-    removed = λ q is. absurd (not_empty q is);
-    added = λ q is. ap (λ set. contains set q) below_1 ∙ contains-empty triple_cmp q;
-  }
+last_two : members (from_list {R = triple_cmp} (a_d ∷ c_d ∷ [])) ≡ a_d ∷ c_d ∷ []
+unfolding IsStrictlySortedBy
+last_two = listed (a_d ∷ c_d ∷ []) ((refl, tt), (tt, tt))
 
-  kept_2 : IsTriple z → IsLayerKept story 2 middle
-  kept_2 is_z = record {
-    number = (omega arith, omega arith);
-    triples = triple_in (z ∷ []) (is_z, tt);
-    parent = (omega arith, ap is_some (at 1));
-    base = λ none. let never : ⊥ = cc in absurd never;
-    removed = λ q is. subst (λ q. contains (content_below story 2) q ≡ true) (same_triple q x is)
-        (ap (λ set. contains set x) below_2 ∙ among (x ∷ y ∷ []) x ∙ ap (λ b. b || is_among (y ∷ []) x) (itself x));
-    added = λ q is. subst (λ q. contains (content_below story 2) q ≡ false) (same_triple q z is)
-        (ap (λ set. contains set z) below_2 ∙ among (x ∷ y ∷ []) z ∙ (λ i. z_x i || (z_y i || false)));
-  }
+abbrev among : TextTerm → List TextTriple → Bool
+among term triples = list_any (has_term term) triples
 
-  gone : contains (content_below story 3) x ≡ false
-  gone =
-      let x_z : eq_by_cmp triple_cmp x z ≡ false = (eq_by_cmp_equiv triple_cmp_total).symm x z ∙ z_x in
-      ap (λ set. contains set x) below_3
-      ∙ contains-union triple_cmp triple_cmp_total (difference (from_list (x ∷ y ∷ [])) (from_list (x ∷ []))) (from_list (z ∷ [])) x
-      ∙ (λ i. contains-difference triple_cmp triple_cmp_total triple_cmp-IsAntisymmetric (from_list (x ∷ y ∷ [])) (from_list (x ∷ [])) x i || among (z ∷ []) x i)
-      ∙ (λ i. (among (x ∷ y ∷ []) x i && not (among (x ∷ []) x i)) || (x_z i || false))
-      ∙ (λ i. ((itself x i || is_among (y ∷ []) x) && not (itself x i || false)) || false)
+born : (term : TextTerm) → birth_of five 4 term ≡ first_place (among term) ((c_b ∷ q_q ∷ []) ∷ (a_b ∷ []) ∷ [] ∷ (a_d ∷ c_d ∷ []) ∷ [])
+born term =
+    ap (λ chain. first_place (mentions five term) (reverse chain)) chain_of_4
+    ∙ (λ i. first_place (among term) (members (added 1 i) ∷ members (added 2 i) ∷ members (added 3 i) ∷ members (added 4 i) ∷ []))
+    ∙ (λ i. first_place (among term) (first_two i ∷ one a_b i ∷ none i ∷ last_two i ∷ []))
 
-  kept_3 : IsTriple x → IsLayerKept story 3 last
-  kept_3 is_x = record {
-    number = (omega arith, omega arith);
-    triples = triple_in (x ∷ []) (is_x, tt);
-    parent = (omega arith, ap is_some (at 2));
-    base = λ none. let never : ⊥ = cc in absurd never;
-    removed = λ q is. absurd (not_empty q is);
-    added = λ q is. subst (λ q. contains (content_below story 3) q ≡ false) (same_triple q x is) gone;
-  }
+-- what comes back keeps its birth
+pub birth_of_c : birth_of five 4 (node 0x63) ≡ Some 0
+birth_of_c = born (node 0x63)
 
-  kept : IsTriple x → IsTriple y → IsTriple z → IsWellKept story
-  kept is_x is_y is_z = IsWellKept-from_entries entries_of (kept_1 is_x is_y, (kept_2 is_z, (kept_3 is_x, tt)))
+pub birth_of_a : birth_of five 4 (node 0x61) ≡ Some 1
+birth_of_a = born (node 0x61)
 
--- ---- as layers
+-- a layer without changes counts
+pub birth_of_d : birth_of five 4 (node 0x64) ≡ Some 3
+birth_of_d = born (node 0x64)
 
-pub record Says (layer : PlainLayer) (number : ℕ) (parent : Option ℕ) (additions removals : List TextTriple) : Type 0 where
-  pub number_is : layer.number ≡ number
-  pub parent_is : layer.parent ≡ parent
-  pub additions_are : layer.additions.items ≡ additions
-  pub removals_are : layer.removals.items ≡ removals
+-- a spelling is one term in each kind
+pub birth_of_q : birth_of five 4 (node 0x71) ≡ Some 0
+birth_of_q = born (node 0x71)
 
-entry_is : (layer : PlainLayer) (number : ℕ) (parent : Option ℕ) (additions removals : List TextTriple) → Says layer number parent additions removals
-    → entry_of layer ≡ (number, record { parent = parent; additions = from_list additions; removals = from_list removals })
-entry_is layer number parent additions removals says = λ i.
-    (says.number_is i, record { parent = says.parent_is i; additions = from_list (says.additions_are i); removals = from_list (says.removals_are i) })
+pub birth_of_predicate_q : birth_of five 4 (predicate 0x71) ≡ Some 0
+birth_of_predicate_q = born (predicate 0x71)
 
-keeps : (layer : PlainLayer) (number : ℕ) (parent : Option ℕ) (additions removals : List TextTriple) → Says layer number parent additions removals
-    → KeepsPlainRules number parent additions removals → LayerKeepsRules layer
-keeps layer number parent additions removals says rules =
-    let P : ℕ × Option ℕ × List TextTriple × List TextTriple → Type 0 = λ q. KeepsPlainRules q.0 q.1 q.2 q.3 in
-    subst P (λ i. (sym says.number_is i, sym says.parent_is i, sym says.additions_are i, sym says.removals_are i)) rules
+pub birth_of_predicate_c : birth_of five 4 (predicate 0x63) ≡ None
+birth_of_predicate_c = born (predicate 0x63)
 
-none_twice : (triple : TextTriple) (triples : List TextTriple) → Contains triples triple → Contains [] triple → ⊥
-none_twice triple triples h none = omega (arith, none.1)
+-- ---- content
 
-module _ (x y z : TextTriple) (x_y : triple_cmp x y ≡ Less) (z_x : eq_by_cmp triple_cmp z x ≡ false) (z_y : eq_by_cmp triple_cmp z y ≡ false) where
-  rules_1 : KeepsPlainRules 1 None (x ∷ y ∷ []) []
-  unfolding IsStrictlySortedBy
-  rules_1 = record { numbered = omega arith; parented = tt; additions_rise = ((x_y, tt), (tt, tt)); removals_rise = tt; apart = λ triple h none. none_twice triple (x ∷ y ∷ []) h none; parent_fits = refl }
+abbrev Change : Type 0
+Change = List TextTriple × List TextTriple
 
-  alone : (f q : TextTriple) → Contains (f ∷ []) q → f ≡ q
-  alone f q (zero, below, is) = is
-  alone f q (suc k, below, is) = absurd (omega arith)
+-- changes from the newest layer to the base, of which the base has additions alone
+abbrev stands : List Change → TextTriple → Bool
+stands [] q = false
+stands (change ∷ []) q = is_among change.0 q
+stands (change ∷ below ∷ changes) q = (stands (below ∷ changes) q && not (is_among change.1 q)) || is_among change.0 q
 
-  rules_2 : KeepsPlainRules 2 (Some 1) (z ∷ []) (x ∷ [])
-  unfolding IsStrictlySortedBy
-  rules_2 = record {
-    numbered = omega arith;
-    parented = omega arith;
-    additions_rise = (tt, tt);
-    removals_rise = (tt, tt);
-    apart = λ triple h k. true≢false (sym (itself x) ∙ ap (λ f. eq_by_cmp triple_cmp f x) (alone x triple k ∙ sym (alone z triple h)) ∙ z_x);
-    parent_fits = omega arith;
-  }
+made : (triples : List TextTriple) (q : TextTriple) → contains (from_list {R = triple_cmp} triples) q ≡ is_among triples q
+made triples q = contains-from_list triple_cmp triple_cmp_total triples q
 
-  rules_3 : KeepsPlainRules 3 (Some 2) (x ∷ []) []
-  unfolding IsStrictlySortedBy
-  rules_3 = record { numbered = omega arith; parented = omega arith; additions_rise = (tt, tt); removals_rise = tt; apart = λ triple h none. none_twice triple (x ∷ []) h none; parent_fits = omega arith }
+over : (below : SetOf triple_cmp) (additions removals : List TextTriple) (q : TextTriple)
+    → contains (union (difference below (from_list removals)) (from_list additions)) q ≡ ((contains below q && not (is_among removals q)) || is_among additions q)
+over below additions removals q =
+    contains-union triple_cmp triple_cmp_total (difference below (from_list removals)) (from_list additions) q
+    ∙ (λ i. contains-difference triple_cmp triple_cmp_total triple_cmp-IsAntisymmetric below (from_list removals) q i || made additions q i)
+    ∙ (λ i. (contains below q && not (made removals q i)) || is_among additions q)
 
-  rising_numbers : IsStrictlySortedBy nat_cmp (1 ∷ 2 ∷ 3 ∷ [])
-  unfolding IsStrictlySortedBy
-  rising_numbers = ((refl, (refl, tt)), ((refl, tt), (tt, tt)))
+abbrev of_1 : SetOf triple_cmp
+of_1 = from_list (c_b ∷ q_q ∷ [])
 
-  module _ (one two three : PlainLayer) (first : Says one 1 None (x ∷ y ∷ []) []) (second : Says two 2 (Some 1) (z ∷ []) (x ∷ [])) (third : Says three 3 (Some 2) (x ∷ []) []) where
-    is_story : history_of (one ∷ two ∷ three ∷ []) ≡ story x y z x_y z_x z_y
-    is_story = λ i.
-        from_entries (entry_is one 1 None (x ∷ y ∷ []) [] first i ∷ entry_is two 2 (Some 1) (z ∷ []) (x ∷ []) second i ∷ entry_is three 3 (Some 2) (x ∷ []) [] third i ∷ [])
+abbrev of_2 : SetOf triple_cmp
+of_2 = union (difference of_1 (from_list (c_b ∷ []))) (from_list (a_b ∷ []))
 
-    pub AreHistory-story : IsTriple x → IsTriple y → IsTriple z → AreHistory (one ∷ two ∷ three ∷ [])
-    AreHistory-story is_x is_y is_z = record {
-      numbers_rise = subst (IsStrictlySortedBy nat_cmp) (λ i. sym first.number_is i ∷ sym second.number_is i ∷ sym third.number_is i ∷ []) rising_numbers;
-      rules = All-cons LayerKeepsRules one (two ∷ three ∷ []) (keeps one 1 None (x ∷ y ∷ []) [] first rules_1)
-          (All-cons LayerKeepsRules two (three ∷ []) (keeps two 2 (Some 1) (z ∷ []) (x ∷ []) second rules_2)
-          (All-cons LayerKeepsRules three [] (keeps three 3 (Some 2) (x ∷ []) [] third rules_3) (All-nil LayerKeepsRules)));
-      well_kept = subst IsWellKept (sym is_story) (kept x y z x_y z_x z_y is_x is_y is_z);
-    }
+abbrev of_3 : SetOf triple_cmp
+of_3 = union (difference of_2 (from_list [])) (from_list [])
 
-    pub stands-2 : IsTrue (contains_key (history_of (one ∷ two ∷ three ∷ [])) 2)
-    stands-2 = ap (λ history. contains_key history 2) is_story ∙ ap is_some (at x y z x_y z_x z_y 2)
+content_4 : content_at five 4 ≡ union (difference of_3 (from_list [])) (from_list (a_d ∷ c_d ∷ []))
+content_4 =
+    ap (content_of five) chain_of_4
+    ∙ (λ i. union (difference (union (difference (union (difference (added 1 i) (removed 2 i)) (added 2 i)) (removed 3 i)) (added 3 i)) (removed 4 i)) (added 4 i))
 
-    pub stands-3 : IsTrue (contains_key (history_of (one ∷ two ∷ three ∷ [])) 3)
-    stands-3 = ap (λ history. contains_key history 3) is_story ∙ ap is_some (at x y z x_y z_x z_y 3)
+held_4 : (q : TextTriple) → contains (content_at five 4) q
+    ≡ stands ((a_d ∷ c_d ∷ [], []) ∷ ([], []) ∷ (a_b ∷ [], c_b ∷ []) ∷ (c_b ∷ q_q ∷ [], []) ∷ []) q
+held_4 q =
+    ap (λ set. contains set q) content_4
+    ∙ over of_3 (a_d ∷ c_d ∷ []) [] q
+    ∙ ap (λ b. (b && not (is_among [] q)) || is_among (a_d ∷ c_d ∷ []) q) (
+    over of_2 [] [] q
+    ∙ ap (λ b. (b && not (is_among [] q)) || is_among [] q) (
+    over of_1 (a_b ∷ []) (c_b ∷ []) q
+    ∙ ap (λ b. (b && not (is_among (c_b ∷ []) q)) || is_among (a_b ∷ []) q) (made (c_b ∷ q_q ∷ []) q)
+    ))
+
+held_5 : (q : TextTriple) → contains (content_at five 5) q ≡ stands (([], q_q ∷ []) ∷ (c_b ∷ q_q ∷ [], []) ∷ []) q
+held_5 q =
+    ap (λ set. contains set q) (ap (content_of five) chain_of_5 ∙ (λ i. union (difference (added 1 i) (removed 5 i)) (added 5 i)))
+    ∙ over of_1 [] (q_q ∷ []) q
+    ∙ ap (λ b. (b && not (is_among (q_q ∷ []) q)) || is_among [] q) (made (c_b ∷ q_q ∷ []) q)
+
+-- a removal in the middle of the chain holds above it, and in its own chain alone
+pub c_b-gone : contains (content_at five 4) c_b ≡ false
+c_b-gone = held_4 c_b
+
+pub c_d-there : contains (content_at five 4) c_d ≡ true
+c_d-there = held_4 c_d
+
+pub q_q-there : contains (content_at five 4) q_q ≡ true
+q_q-there = held_4 q_q
+
+pub c_b-still : contains (content_at five 5) c_b ≡ true
+c_b-still = held_5 c_b
+
+pub q_q-gone : contains (content_at five 5) q_q ≡ false
+q_q-gone = held_5 q_q
+
+-- ---- a triple that is removed and added in one body, in both orders
+
+pub removed_then_added : last_sign (record { sign = Remove; triple = a_b } ∷ record { sign = Add; triple = a_b } ∷ []) a_b ≡ Some Add
+removed_then_added = refl
+
+pub added_then_removed : last_sign (record { sign = Add; triple = a_b } ∷ record { sign = Remove; triple = a_b } ∷ []) a_b ≡ Some Remove
+added_then_removed = refl

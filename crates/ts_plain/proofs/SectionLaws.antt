@@ -1,5 +1,5 @@
 -- The changes of a sign at the front of bytes, one after another.
-use Rattle.std.proofs.Common.{◌≡◌, ◌≢◌, ℕ, List, [], ◌∷◌, ◌++◌, All, sym, ap, ◌∙◌, subst, append_assoc}
+use Rattle.std.proofs.Common.{◌≡◌, ◌≢◌, ◌⊎◌, inl, inr, ℕ, List, [], ◌∷◌, ◌++◌, All, sym, ap, ◌∙◌, subst, append_assoc}
 use Rattle.std.specs.List.Sorted.{IsStrictlySortedBy}
 use Rattle.std.proofs.lemmas.List.{flat_map_more}
 use Rattle.std.proofs.lemmas.List.Elements.{All-head, All-tail}
@@ -7,8 +7,9 @@ use Rattle.ts_model.specs.TextTriple.{TextTriple, IsTriple}
 use Rattle.ts_model.specs.Order.{triple_cmp}
 use Rattle.ts_nt.specs.TripleLine.{triple_line}
 use Rattle.ts_plain.specs.PlainFile.{change_line, change_lines}
-use Rattle.ts_plain.specs.PlainReading.{IsSection}
-use Rattle.ts_plain.proofs.LineLaws.{triple_once, next_is, section_once}
+use Rattle.ts_plain.specs.PlainReading.{BeginsWithLine, IsSection}
+use Rattle.ts_plain.proofs.EndLaws.{line_text}
+use Rattle.ts_plain.proofs.LineLaws.{line_before, triple_once, next_is, section_once}
 use Rattle.ts_plain.proofs.OrderLaws.{rises_front}
 
 -- one more line
@@ -18,6 +19,25 @@ lines_more sign bytes done next rest after later e stands reads =
     let line : rest ≡ change_line sign next ++ later = stands ∙ ap (λ l. sign ∷ 0x20 ∷ l) reads in
     let more : change_lines sign done ++ change_line sign next ≡ change_lines sign (done ++ next ∷ []) = flat_map_more (change_line sign) [] done next in
     e ∙ ap (λ l. change_lines sign done ++ l) line ∙ sym (append_assoc (change_lines sign done) (change_line sign next) later) ∙ ap (λ l. l ++ later) more
+
+-- ---- the first line
+
+begins_here : (sign : ℕ) (bytes : List ℕ) (t : TextTriple) (ts : List TextTriple) (rest : List ℕ) → bytes ≡ change_lines sign (t ∷ ts) ++ rest → BeginsWithLine sign bytes
+begins_here sign bytes t ts rest e = (
+  line_text t,
+  change_lines sign ts ++ rest,
+  e ∙ append_assoc (change_line sign t) (change_lines sign ts) rest ∙ ap (λ l. sign ∷ 0x20 ∷ l) (line_before t (change_lines sign ts ++ rest)),
+)
+
+-- bytes begin with a line where lines of changes and then another line stand
+pub begins_with_line : (sign : ℕ) (bytes : List ℕ) (done : List TextTriple) (rest : List ℕ) → bytes ≡ change_lines sign done ++ rest → BeginsWithLine sign rest → BeginsWithLine sign bytes
+begins_with_line sign bytes [] rest e line = (line.0, line.1, e ∙ line.2)
+begins_with_line sign bytes (t ∷ ts) rest e line = begins_here sign bytes t ts rest e
+
+pub begins_with_either : (sign other : ℕ) (bytes : List ℕ) (done : List TextTriple) (rest : List ℕ) → bytes ≡ change_lines sign done ++ rest → BeginsWithLine other rest
+    → BeginsWithLine sign bytes ⊎ BeginsWithLine other bytes
+begins_with_either sign other bytes [] rest e line = inr (line.0, line.1, e ∙ line.2)
+begins_with_either sign other bytes (t ∷ ts) rest e line = inl (begins_here sign bytes t ts rest e)
 
 -- ---- bytes with no section of the sign
 

@@ -27,21 +27,35 @@ pub(crate) fn chain<'a>(
 }
 
 /// The layer's parent, if it has one.
-fn parent_of<'a>(layers: &'a [PlainLayer], layer: &'a PlainLayer) -> Option<&'a PlainLayer>
+pub(crate) fn parent_of<'a>(
+    layers: &'a [PlainLayer],
+    layer: &'a PlainLayer,
+) -> Option<&'a PlainLayer>
     requires history { AreHistory layers.now }
     requires stands { StandsIn (history_of layers.now) layer.now }
     ensures some { IfSome result (λ parent.
         (layer.now.parent ≡ Some parent.now.number) × StandsIn (history_of layers.now) parent.now) }
     ensures none { IfNone result (layer.now.parent ≡ None) }
 {
-    match layer.parent {
-        Some(parent) => layer_at(layers, parent),
+    standing_layer(layers, layer.parent)
+}
+
+/// The layer of a number that stands, if there is a number.
+pub(crate) fn standing_layer(layers: &[PlainLayer], number: Option<u32>) -> Option<&PlainLayer>
+    requires history { AreHistory layers.now }
+    requires stands { IfSome number (λ k. IsTrue (contains_key (history_of layers.now) k)) }
+    ensures some { IfSome result (λ layer.
+        (number ≡ Some layer.now.number) × StandsIn (history_of layers.now) layer.now) }
+    ensures none { IfNone result (number ≡ None) }
+{
+    match number {
+        Some(number) => layer_at(layers, number),
         None => None,
     }
 }
 
-/// The layer of a number, by binary search.
-fn layer_at<'a>(layers: &'a [PlainLayer], number: u32) -> Option<&'a PlainLayer>
+/// The layer of a number, by binary search; `None` exactly where no layer of that number stands.
+pub fn layer_at<'a>(layers: &'a [PlainLayer], number: u32) -> Option<&'a PlainLayer>
     requires history { AreHistory layers.now }
     ensures some { IfSome result (λ layer.
         (layer.now.number ≡ number) × StandsIn (history_of layers.now) layer.now) }

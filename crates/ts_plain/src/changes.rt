@@ -3,7 +3,7 @@ ghost use Rattle.std.specs.List.Sorted.{IsStrictlySortedBy};
 ghost use Rattle.ts_model.specs.TextTriple.{TextTriple, IsTriple};
 ghost use Rattle.ts_model.specs.Order.{triple_cmp};
 ghost use Rattle.ts_nt.specs.TripleLine.{triple_line};
-ghost use Rattle.ts_plain.specs.PlainReading.{HasNoEnd, IsSection};
+ghost use Rattle.ts_plain.specs.PlainReading.{BeginsWithLine, HasNoEnd, IsSection};
 
 use crate::lines::{behind_sign, first_line, is_whole_line};
 use crate::read::PlainError;
@@ -34,6 +34,7 @@ pub fn read_changes<'a>(
 ) -> Result<Changes<'a>, PlainError>
     ensures ok { IfOk result (λ changes. IsSection sign bytes.now changes.triples.items changes.rest.now) }
     ensures err { IfErr result (λ e. e ≡ PlainError.NotPlain → (triples : List TextTriple) (rest : List ℕ) → IsSection sign bytes.now triples rest → ⊥) }
+    ensures memory { IfErr result (λ e. e ≡ PlainError.Memory → BeginsWithLine sign bytes.now) }
 {
     let mut triples = Vec::new(alloc);
     let mut rest = bytes;
@@ -67,6 +68,7 @@ fn read_change<'a>(
 ) -> Result<Change<'a>, PlainError>
     ensures ok { IfOk result (λ change. IsTriple change.triple × (bytes.now ≡ triple_line change.triple ++ change.rest.now)) }
     ensures err { IfErr result (λ e. e ≡ PlainError.NotPlain → (triple : TextTriple) (rest : List ℕ) → IsTriple triple → bytes.now ≢ triple_line triple ++ rest) }
+    ensures memory { IfErr result (λ e. e ≡ PlainError.Memory → (text : List ℕ) × (rest : List ℕ) × (bytes.now ≡ text ++ 0x0A ∷ rest)) }
 {
     let Some(line) = first_line(bytes) else {
         return Err(PlainError::NotPlain);

@@ -1,17 +1,37 @@
-ghost use Rattle.std.specs.Prelude.{◌≡◌, ◌&&◌, ◌||◌, not, map, IfOk, OnOk};
+ghost use Rattle.std.specs.Prelude.{◌≡◌, ◌&&◌, ◌||◌, not, map, IfOk, OnOk, IsTrue};
+ghost use Rattle.std.specs.FinMap.{contains_key};
 ghost use Rattle.std.specs.List.{list_any};
 ghost use Rattle.std.specs.List.Sorted.{IsStrictlySortedBy};
 ghost use Rattle.std.specs.Ordering.{eq_by_cmp};
 ghost use Rattle.ts_model.specs.TextTriple.{TextTriple};
+ghost use Rattle.ts_model.specs.History.{content_at};
 ghost use Rattle.ts_model.specs.Order.{triple_cmp};
 ghost use Rattle.ts_model.specs.Sets.{members};
 ghost use Rattle.ts_plain.specs.Chain.{content_over};
 ghost use Rattle.ts_plain.specs.Held.{holds};
+ghost use Rattle.ts_plain.specs.History.{AreHistory, history_of};
 
+use crate::chain::chain;
+use crate::copies::copies;
 use crate::write::PlainLayer;
 use std::alloc::{AllocError, Global};
 use std::collections::BTreeSet;
 use ts_model::Triple;
+
+/// The triples of a layer, each once and rising.
+pub fn content_of(
+    alloc: Global,
+    layers: &[PlainLayer],
+    number: u32,
+) -> Result<Vec<Triple>, AllocError>
+    requires history { AreHistory layers.now }
+    requires stands { IsTrue (contains_key (history_of layers.now) number) }
+    ensures { IfOk result (λ triples. triples.items ≡ members (content_at (history_of layers.now) number)) }
+{
+    let chain = chain(alloc, layers, number)?;
+    let content = content(alloc, chain.as_slice())?;
+    copies(alloc, content.as_slice())
+}
 
 /// The triples of the last of these layers, rising, where each layer is the parent of the next.
 pub(crate) fn content<'a>(

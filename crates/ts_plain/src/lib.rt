@@ -11,9 +11,15 @@
 //! listing of the layer in the history that the layers make.
 #![tactic(auto)]
 
+pub use chain::layer_at;
+pub use content::content_of;
+pub use keeps::keeps_to_place;
 pub use law::one_layer;
-pub use listing::plain_listing;
+pub use listing::{changes_of, listing_of, plain_listing};
+pub use lookup::holds;
+pub use net::{NetChange, net_change};
 pub use read::{PlainError, read_plain};
+pub use totals::totals_after;
 pub use write::{PlainLayer, write_plain};
 
 mod apart;
@@ -21,13 +27,18 @@ mod births;
 mod chain;
 mod changes;
 mod content;
+mod copies;
 mod head;
+mod keeps;
 mod law;
 mod lines;
 mod listing;
+mod lookup;
+mod net;
 mod read;
 #[cfg(test)]
 mod read_tests;
 #[cfg(test)]
 mod tests;
+mod totals;
 mod write;

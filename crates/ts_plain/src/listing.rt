@@ -1,7 +1,11 @@
-ghost use Rattle.std.specs.Prelude.{◌≡◌, map, unwrap_or, All, IfOk, IsTrue};
+ghost use Rattle.std.specs.Prelude.{◌≡◌, ℕ, map, unwrap_or, All, IfOk, IsTrue};
 ghost use Rattle.std.specs.FinMap.{contains_key};
-ghost use Rattle.std.specs.List.Sorted.{IsPermutation, IsSorted};
-ghost use Rattle.ts_model.specs.Listing.{listing};
+ghost use Rattle.std.specs.List.Sorted.{IsPermutation, IsSorted, IsStrictlySortedBy};
+ghost use Rattle.ts_model.specs.History.{History};
+ghost use Rattle.ts_model.specs.Listing.{in_birth_order, listing};
+ghost use Rattle.ts_model.specs.Order.{triple_cmp};
+ghost use Rattle.ts_model.specs.Sets.{from_list};
+ghost use Rattle.ts_plain.specs.Chain.{IsChain};
 ghost use Rattle.ts_plain.specs.Held.{birth_in};
 ghost use Rattle.ts_plain.specs.History.{AreHistory, history_of};
 ghost use Rattle.ts_plain.specs.Keys.{IsKeyed, born_cmp, keyed_cmp, tail_cmp};
@@ -9,6 +13,7 @@ ghost use Rattle.ts_plain.specs.Keys.{IsKeyed, born_cmp, keyed_cmp, tail_cmp};
 use crate::births::{birth, births};
 use crate::chain::chain;
 use crate::content::content;
+use crate::copies::copies;
 use crate::write::PlainLayer;
 use std::alloc::{AllocError, Global};
 use std::cmp::Ordering;
@@ -26,12 +31,64 @@ pub fn plain_listing(
     requires stands { IsTrue (contains_key (history_of layers.now) number) }
     ensures { IfOk result (λ triples. triples.items ≡ listing (history_of layers.now) number) }
 {
+    let listed = listing_of(alloc, layers, number)?;
+    copies(alloc, listed.as_slice())
+}
+
+/// The listing of a layer, as [`plain_listing`] copies it.
+pub fn listing_of<'a>(
+    alloc: Global,
+    layers: &'a [PlainLayer],
+    number: u32,
+) -> Result<Vec<&'a Triple>, AllocError>
+    requires history { AreHistory layers.now }
+    requires stands { IsTrue (contains_key (history_of layers.now) number) }
+    ensures { IfOk result (λ triples.
+        map (λ triple. triple.now) triples.items ≡ listing (history_of layers.now) number) }
+{
     let chain = chain(alloc, layers, number)?;
-    let births = births(alloc, chain.as_slice())?;
     let content = content(alloc, chain.as_slice())?;
-    let mut triples = with_births(alloc, &births, content.as_slice())?;
-    sort(&mut triples);
-    copies(alloc, triples.as_slice())
+    in_birth_order(alloc, chain.as_slice(), content.as_slice())
+}
+
+/// A layer's own additions, or its removals, in birth order at it, each once.
+pub fn changes_of<'a>(
+    alloc: Global,
+    layers: &'a [PlainLayer],
+    number: u32,
+    own: &'a [Triple],
+) -> Result<Vec<&'a Triple>, AllocError>
+    requires history { AreHistory layers.now }
+    requires stands { IsTrue (contains_key (history_of layers.now) number) }
+    requires rise { IsStrictlySortedBy triple_cmp own.now }
+    ensures { IfOk result (λ triples.
+        map (λ triple. triple.now) triples.items ≡ in_birth_order (history_of layers.now) number (from_list own.now)) }
+{
+    let chain = chain(alloc, layers, number)?;
+    let own = references(alloc, own)?;
+    in_birth_order(alloc, chain.as_slice(), own.as_slice())
+}
+
+fn references<'a>(alloc: Global, triples: &'a [Triple]) -> Result<Vec<&'a Triple>, AllocError>
+    ensures { IfOk result (λ lent. map (λ triple. triple.now) lent.items ≡ triples.now) }
+{
+    triples.iter().collect(alloc)
+}
+
+/// Rising triples, moved into birth order at the last layer of a chain.
+fn in_birth_order<'a>(
+    alloc: Global,
+    chain: &[&'a PlainLayer],
+    triples: &[&'a Triple],
+) -> Result<Vec<&'a Triple>, AllocError>
+    requires { IsStrictlySortedBy triple_cmp (map (λ triple. triple.now) triples.now) }
+    ensures { IfOk result (λ sorted. (history : History) (number : ℕ) → IsChain history number (map (λ layer. layer.now) chain.now)
+        → map (λ triple. triple.now) sorted.items ≡ in_birth_order history number (from_list (map (λ triple. triple.now) triples.now))) }
+{
+    let births = births(alloc, chain)?;
+    let mut keyed = with_births(alloc, &births, triples)?;
+    sort(&mut keyed);
+    triples_of(alloc, keyed.as_slice())
 }
 
 /// A triple with the births of its terms.
@@ -112,12 +169,13 @@ fn compare_terms(birth: usize, one: &Term, other_birth: usize, other: &Term) -> 
     })
 }
 
-fn copies(alloc: Global, triples: &[Keyed]) -> Result<Vec<Triple>, AllocError>
-    ensures { IfOk result (λ copies. copies.items ≡ map (λ keyed. keyed.triple.now) triples.now) }
+fn triples_of<'a>(alloc: Global, keyed: &[Keyed<'a>]) -> Result<Vec<&'a Triple>, AllocError>
+    ensures { IfOk result (λ triples.
+        map (λ triple. triple.now) triples.items ≡ map (λ each. each.triple.now) keyed.now) }
 {
-    let mut copies = Vec::new(alloc);
-    for keyed in triples {
-        copies.push(keyed.triple.copy(alloc)?)?;
+    let mut triples = Vec::new(alloc);
+    for each in keyed {
+        triples.push(each.triple)?;
     }
-    Ok(copies)
+    Ok(triples)
 }

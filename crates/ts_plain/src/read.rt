@@ -3,7 +3,7 @@ ghost use Rattle.std.specs.List.Sorted.{IsStrictlySortedBy};
 ghost use Rattle.ts_model.specs.TextTriple.{TextTriple};
 ghost use Rattle.ts_model.specs.Order.{triple_cmp};
 ghost use Rattle.ts_plain.specs.PlainFile.{plain_file};
-ghost use Rattle.ts_plain.specs.PlainReading.{AreApart};
+ghost use Rattle.ts_plain.specs.PlainReading.{AreApart, HasHeadAndLine};
 ghost use Rattle.ts_plain.specs.PlainRules.{IsPlainLayer};
 
 use crate::apart::are_apart;
@@ -46,12 +46,13 @@ impl From<AllocFailed<Triple>> for PlainError {
     }
 }
 
-/// The layer whose plain file the bytes are.
+/// The layer whose plain file the bytes are. Want of memory is met only in lines of changes, behind a head of such a layer.
 pub fn read_plain(alloc: Global, bytes: &[u8], number: u32) -> Result<PlainLayer, PlainError>
     ensures ok { IfOk result (λ layer. (layer.number ≡ number) × IsPlainLayer number layer.parent layer.additions.items layer.removals.items
         × (bytes.now ≡ plain_file number layer.parent layer.additions.items layer.removals.items)) }
     ensures err { IfErr result (λ e. e ≡ PlainError.NotPlain → (parent : Option ℕ) (additions removals : List TextTriple) → IsPlainLayer number parent additions removals
         → bytes.now ≡ plain_file number parent additions removals → ⊥) }
+    ensures memory { IfErr result (λ e. e ≡ PlainError.Memory → HasHeadAndLine number bytes.now) }
 {
     let Some(head) = read_head(bytes, number) else {
         return Err(PlainError::NotPlain);

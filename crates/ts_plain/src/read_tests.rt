@@ -1,3 +1,5 @@
+ghost use Rattle.std.specs.Prelude.{◌<◌, ◌^◌};
+
 use crate::{PlainError, read_plain, write_plain};
 use std::alloc::{AllocError, Global};
 use std::test::Fail;
@@ -59,6 +61,7 @@ const FILES: &[(&str, &str)] = &[
     ("plain 00000002 none\n+<a> <p> <b> .\n", "not plain"),
     ("plain 00000002 none\n+ +<a> <p> <b> .\n", "not plain"),
     ("plain 00000002 none\n\n", "not plain"),
+    ("plain 00000002 none\n+ # x\n", "not plain"),
     // their order
     (
         "plain 00000002 none\n+ <c> <p> <b> .\n+ <a> <p> <b> .\n",
@@ -91,6 +94,26 @@ fn number_zero_is_refused(rt: HostRuntime) -> Result<(), Fail> {
         let seen = shown(alloc, file.as_bytes(), number)?;
         assert_eq!(rt; seen.as_slice(), b"not plain".as_slice(), "{file}");
     }
+    Ok(())
+}
+
+/// `+`, a space and so many `#`, as one line.
+fn long_line(alloc: Global, count: usize) -> Result<Vec<u8>, AllocError>
+    requires { count < 2 ^ 32 }
+{
+    let mut file = Vec::from_slice(alloc, b"plain 00000002 none\n+ ")?;
+    file.resize(22 + count, b'#')?;
+    file.push(b'\n')?;
+    Ok(file)
+}
+
+/// A line is over its limit.
+#[test]
+fn an_overlong_line_is_refused(rt: HostRuntime) -> Result<(), Fail> {
+    let alloc = rt.alloc();
+    let file = long_line(alloc, 4_194_305)?;
+    let seen = shown(alloc, file.as_slice(), 2)?;
+    assert_eq!(rt; seen.as_slice(), b"not plain".as_slice());
     Ok(())
 }
 

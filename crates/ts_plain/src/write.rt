@@ -1,4 +1,5 @@
-ghost use Rattle.std.specs.Prelude.{◌≡◌, ◌++◌, IfOk, OnOk};
+ghost use Rattle.std.specs.Prelude.{◌≡◌, ◌++◌, All, IfOk, OnOk};
+ghost use Rattle.ts_model.specs.TextTriple.{IsTriple};
 ghost use Rattle.ts_plain.specs.PlainFile.{plain_file, head_line, change_line, change_lines};
 ghost use Rattle.ts_plain.specs.PlainRules.{KeepsPlainRules};
 
@@ -17,13 +18,14 @@ pub struct PlainLayer {
     pub removals: Vec<Triple>,
 }
 
-/// The plain file of a layer.
+/// The plain file of a layer. Its triples are then known to be of terms.
 pub fn write_plain(alloc: Global, layer: &PlainLayer) -> Result<Vec<u8>, AllocError>
     requires { KeepsPlainRules layer.now.number layer.now.parent
         layer.now.additions.items layer.now.removals.items }
-    ensures { IfOk result (λ file.
+    ensures file { IfOk result (λ file.
         file.items ≡ plain_file layer.now.number layer.now.parent
         layer.now.additions.items layer.now.removals.items) }
+    ensures terms { OnOk result (All IsTriple layer.now.additions.items × All IsTriple layer.now.removals.items) }
 {
     let mut file = Vec::new(alloc);
     write_head(layer.number, layer.parent, &mut file)?;
@@ -47,7 +49,8 @@ fn write_head(number: u32, parent: Option<u32>, into: &mut Vec<u8>) -> Result<()
 }
 
 fn write_changes(sign: u8, triples: &[Triple], into: &mut Vec<u8>) -> Result<(), AllocError>
-    ensures { OnOk result (into.new.items ≡ into.old.items ++ change_lines sign triples.now) }
+    ensures lines { OnOk result (into.new.items ≡ into.old.items ++ change_lines sign triples.now) }
+    ensures terms { OnOk result (All IsTriple triples.now) }
 {
     for triple in triples {
         write_change(sign, triple, into)?;
@@ -56,7 +59,8 @@ fn write_changes(sign: u8, triples: &[Triple], into: &mut Vec<u8>) -> Result<(),
 }
 
 fn write_change(sign: u8, triple: &Triple, into: &mut Vec<u8>) -> Result<(), AllocError>
-    ensures { OnOk result (into.new.items ≡ into.old.items ++ change_line sign triple.now) }
+    ensures line { OnOk result (into.new.items ≡ into.old.items ++ change_line sign triple.now) }
+    ensures terms { OnOk result (IsTriple triple.now) }
 {
     into.push(sign)?;
     into.push(b' ')?;

@@ -1,1 +1,4 @@
+pub mod Entry
+pub mod Reading
 pub mod Real
+pub mod Writing

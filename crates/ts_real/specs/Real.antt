@@ -1,5 +1,7 @@
 -- What the real site and the real source tell: the counts of faults alone.
-use Rattle.std.specs.Prelude.{ℕ}
+use Rattle.ts_site.specs.Folder.{no_files}
+use Rattle.ts_site.specs.Outside.{Outside}
+use Rattle.std.specs.Prelude.{ℕ, false, []}
 use Rattle.ts_real.specs.declared.site.RealSite.{RealSite}
 use Rattle.ts_real.specs.declared.source.RealSource.{RealSource}
 
@@ -8,6 +10,17 @@ real_disk_faults site = site.disk_faults
 
 abbrev pub real_say_faults : {R : Type 0} → RealSite R → ℕ
 real_say_faults site = site.say_faults
+
+-- it tells neither the folder nor what was said
+abbrev pub real_outside : {R : Type 0} → RealSite R → Outside
+real_outside site = record {
+  tells_folder = false;
+  folder = no_files;
+  disk_faults = site.disk_faults;
+  tells_output = false;
+  told = [];
+  say_faults = site.say_faults;
+}
 
 abbrev pub real_faults : {R : Type 0} → RealSource R → ℕ
 real_faults source = source.faults

@@ -1,10 +1,13 @@
 // The calls on the current folder.
-ghost use Rattle.std.specs.Prelude.{◌≡◌, ◌≤◌, IfOk, length, IsOk, IsErr};
-ghost use Rattle.ts_site.specs.Folder.{GoesOn};
+ghost use Rattle.std.specs.Prelude.{◌≤◌, IfOk, length};
+ghost use Rattle.ts_site.specs.Folder.{Extends};
 
+use crate::entry::{length_of, name_of};
+use crate::reading::read_all;
+use crate::writing::write_whole;
 use std::alloc::Global;
-use std::fs::{DirEntry, OpenFile, OpenOptions};
-use std::io::{ErrorKind, Read, Seek, SeekFrom, Write};
+use std::fs::{OpenFile, OpenOptions};
+use std::io::{ErrorKind, Seek, SeekFrom};
 use std::rt::Files;
 use std::{fs, io};
 use ts_site::FileName;
@@ -15,25 +18,19 @@ fn path_of(name: &FileName) -> io::Result<&str> {
     str::from_utf8(name.bytes()).map_err(|_| ErrorKind::InvalidFilename.into())
 }
 
-/// Appends the names of the files of the folder. Folders in it and other names are passed over.
+/// Appends the names of the files of the folder. What else stands there is passed over unopened: files of other names,
+/// and folders, pipes, sockets, devices and links to such or to nothing.
 pub fn list<R: Files + AllocGlobal + Clone + Drop>(
     rt: &R,
     into: &mut Vec<FileName>,
 ) -> io::Result<()>
-    ensures { GoesOn into.old.items into.new.items }
+    ensures { Extends into.old.items into.new.items }
 {
     for entry in fs::read_dir(rt, FOLDER)? {
-        add(&entry?, into)?;
-    }
-    Ok(())
-}
-
-fn add<R: Files>(entry: &DirEntry<R, Global>, into: &mut Vec<FileName>) -> io::Result<()>
-    ensures { GoesOn into.old.items into.new.items }
-{
-    if !entry.file_type()?.is_dir() {
-        if let Some(name) = FileName::of(entry.file_name().as_bytes()) {
-            into.push(name)?;
+        if let Some(name) = name_of(entry)? {
+            if size(rt, &name)?.is_some() {
+                into.push(name)?;
+            }
         }
     }
     Ok(())
@@ -41,16 +38,7 @@ fn add<R: Files>(entry: &DirEntry<R, Global>, into: &mut Vec<FileName>) -> io::R
 
 /// The length of a file, None where the name is absent.
 pub fn size(rt: &impl Files, name: &FileName) -> io::Result<Option<u64>> {
-    match fs::metadata(rt, path_of(name)?) {
-        Ok(metadata) => Ok(Some(metadata.len())),
-        Err(error) => {
-            if error.kind() == ErrorKind::NotFound {
-                Ok(None)
-            } else {
-                Err(error)
-            }
-        }
-    }
+    length_of(fs::metadata(rt, path_of(name)?))
 }
 
 /// Reads from a place until the buffer is full or the file ends.
@@ -62,40 +50,24 @@ pub fn read_at(rt: &impl Files, name: &FileName, place: u64, into: &mut [u8]) ->
     read_all(&mut file, into)
 }
 
-fn read_all<F: Read>(file: &mut F, into: &mut [u8]) -> io::Result<usize>
-    ensures { IfOk result (λ count. count ≤ length into.old) }
-{
-    let mut count = 0;
-    for _ in 0..u64::MAX {
-        let got = read_some(file, &mut into[count..])?;
-        if got == 0 {
-            break;
-        }
-        count += got;
-    }
-    Ok(count)
-}
-
-/// Reads some bytes, again where the read was interrupted.
-pub fn read_some<F: Read>(file: &mut F, into: &mut [u8]) -> io::Result<usize>
-    ensures { IfOk result (λ count. count ≤ length into.old) }
-{
-    for _ in 0..u64::MAX {
-        match file.read(into) {
-            Ok(count) => return Ok(count),
-            Err(error) => {
-                if error.kind() != ErrorKind::Interrupted {
-                    return Err(error);
-                }
-            }
-        }
-    }
-    Err(ErrorKind::Interrupted.into())
-}
-
-/// Makes the name an empty file.
+/// Makes the name an empty file. What stood there is taken away and not written into: a pipe would wait for a reader
+/// for ever, and a link leads to a file of others.
 pub fn create(rt: &impl Files, name: &FileName) -> io::Result<()> {
-    fs::create(rt, path_of(name)?)?;
+    let path = path_of(name)?;
+    match create_new(rt, path) {
+        Err(error) if error.kind() == ErrorKind::AlreadyExists => {
+            fs::remove_file(rt, path)?;
+            create_new(rt, path)
+        }
+        created => created,
+    }
+}
+
+/// Makes a file where nothing stands.
+fn create_new(rt: &impl Files, path: &str) -> io::Result<()> {
+    let mut options = OpenOptions::new();
+    options.write(true).create_new(true);
+    options.open(rt, path)?;
     Ok(())
 }
 
@@ -104,7 +76,7 @@ pub fn append(rt: &impl Files, name: &FileName, bytes: &[u8]) -> io::Result<()> 
     let mut options = OpenOptions::new();
     options.append(true);
     let mut file = options.open(rt, path_of(name)?)?;
-    file.write_all(bytes)
+    write_whole(&mut file, bytes)
 }
 
 /// Settles the bytes of a file.

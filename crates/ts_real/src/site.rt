@@ -1,11 +1,11 @@
 // The current folder and standard output.
-ghost use Rattle.std.specs.Prelude.{◌≡◌, false, []};
-ghost use Rattle.ts_site.specs.Folder.{no_files};
+ghost use Rattle.std.specs.Prelude.{◌≡◌};
 
 use crate::count::counted;
 use crate::folder;
+use crate::writing::write_whole;
 use std::alloc::Global;
-use std::io::ErrorKind;
+use std::io::{ErrorKind, writer};
 use std::rt::Files;
 use ts_site::{Disk, Failed, FileName, ListFail, Site};
 
@@ -37,19 +37,9 @@ impl<R: Files + Print + AllocGlobal + Clone + Drop> RealSite<R> {
 }
 
 impl<R: Files + Print + AllocGlobal + Clone + Drop> Disk for RealSite<R> {
-    ghost use Rattle.ts_real.specs.Real.{real_disk_faults, real_say_faults};
+    ghost use Rattle.ts_real.specs.Real.{real_outside};
 
-    ghost tells_folder = { λ site. false };
-
-    ghost now = { λ site. no_files };
-
-    ghost disk_faults = { real_disk_faults };
-
-    ghost tells_output = { λ site. false };
-
-    ghost told = { λ site. [] };
-
-    ghost say_faults = { real_say_faults };
+    ghost outside = { real_outside };
 
     fn list(&mut self, alloc: Global, into: &mut Vec<FileName>) -> Result<(), ListFail> {
         match folder::list(&self.rt, into) {
@@ -106,6 +96,9 @@ impl<R: Files + Print + AllocGlobal + Clone + Drop> Disk for RealSite<R> {
 
 impl<R: Files + Print + AllocGlobal + Clone + Drop> Site for RealSite<R> {
     fn say(&mut self, piece: &[u8]) -> Result<(), Failed> {
-        counted(&mut self.say_faults, self.rt.write_all(piece))
+        counted(
+            &mut self.say_faults,
+            write_whole(&mut writer(&self.rt), piece),
+        )
     }
 }

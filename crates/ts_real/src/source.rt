@@ -2,28 +2,29 @@
 ghost use Rattle.std.specs.Prelude.{◌≡◌, false, []};
 
 use crate::count::counted;
-use crate::folder::read_some;
+use crate::reading::read_some;
+use std::io::Read;
 use ts_site::{Failed, Source};
 
-/// Standard input, by way of a runtime `R`.
+/// An input, which `main` makes of standard input.
 #[derive(Drop)]
-pub struct RealSource<R> {
-    rt: R,
+pub struct RealSource<I> {
+    input: I,
     faults: u64,
 }
 
-impl<R: Input + Drop> RealSource<R> {
+impl<I: Read + Drop> RealSource<I> {
     ghost use Rattle.ts_real.specs.Real.{real_faults};
 
-    /// The source that the runtime gives, without faults yet.
-    pub fn new(rt: R) -> RealSource<R>
+    /// The source of this input, without faults yet.
+    pub fn new(input: I) -> RealSource<I>
         ensures { real_faults result ≡ 0 }
     {
-        RealSource { rt, faults: 0 }
+        RealSource { input, faults: 0 }
     }
 }
 
-impl<R: Input + Drop> Source for RealSource<R> {
+impl<I: Read + Drop> Source for RealSource<I> {
     ghost use Rattle.ts_real.specs.Real.{real_faults};
 
     ghost tells = { λ source. false };
@@ -33,6 +34,6 @@ impl<R: Input + Drop> Source for RealSource<R> {
     ghost faults = { real_faults };
 
     fn take(&mut self, into: &mut [u8]) -> Result<usize, Failed> {
-        counted(&mut self.faults, read_some(&mut self.rt.reader(), into))
+        counted(&mut self.faults, read_some(&mut self.input, into))
     }
 }

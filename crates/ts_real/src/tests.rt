@@ -32,8 +32,29 @@ fn a_real_file_is_written_and_read(rt: HostRuntime) -> Result<(), Fail> {
 }
 
 #[test]
+fn a_real_file_is_made_anew_and_replaced(rt: HostRuntime) -> Result<(), Fail> {
+    let mut site = RealSite::new(rt.clone()?);
+    let from = FileName::of(b"real-site-again.from").ok_or("name")?;
+    let to = FileName::of(b"real-site-again.to").ok_or("name")?;
+    site.create(&to)?;
+    site.append(&to, b"what stood")?;
+    site.create(&from)?;
+    site.append(&from, b"old bytes")?;
+    site.create(&from)?;
+    assert_eq!(rt; site.size(&from)?, Some(0));
+    site.append(&from, b"new")?;
+    site.rename(&from, &to)?;
+    assert_eq!(rt; site.size(&to)?, Some(3));
+    let mut buffer = [0; 8];
+    assert_eq!(rt; site.read_at(&to, 0, &mut buffer)?, 3);
+    assert_eq!(rt; buffer, *b"new\0\0\0\0\0");
+    site.remove(&to)?;
+    Ok(())
+}
+
+#[test]
 fn standard_input_is_taken(rt: HostRuntime) -> Result<(), Fail> {
-    let mut source = RealSource::new(rt.clone()?);
+    let mut source = RealSource::new(rt.stdin());
     let mut buffer = [0; 8];
     assert!(rt; source.take(&mut buffer)? <= 8);
     Ok(())

@@ -1,12 +1,12 @@
 //! Changing one file of a folder whole, and reading a folder.
 //!
-//! - [`replace`] gives a file new bytes: [`stage`] writes them to `new.tmp` and settles it, [`place`] moves
-//!   that file to its name and settles the names. So a file is changed whole or not at all.
+//! - [`replace`] gives a file new bytes: [`stage`] writes them to `new.tmp` and syncs it, [`place`] moves
+//!   that file to its name and syncs the names.
 //! - [`Folder`] is what stands in a folder: its layers, rollups and labels.
 //! - [`read_file`] reads a whole file.
 //!
 //! The contract that the layer above uses: after `replace` the folder is the old one with the new bytes under
-//! the name; after a failure the name holds its old content or the new one.
+//! the name; after a failure the name holds its old content or the new one. What a crash leaves has no clause.
 #![tactic(auto)]
 
 mod change;

@@ -1,19 +1,21 @@
 //! tstore: a store of RDF triples in immutable layers, over the current folder.
 #![tactic(auto)]
 
+mod ending;
+
+use crate::ending::{exit_code, tell_stop};
 use std::alloc::AllocError;
 use std::env;
-use std::io::{ErrorKind, Write};
+use std::io::{ErrorKind, Stdin};
 use std::process::ExitCode;
-use ts_cli::{Outcome, Stop, run, stop_line, stopped};
+use ts_cli::{Outcome, Stop, run, stopped};
 use ts_real::{RealSite, RealSource};
 
 fn main(rt: HostRuntime) -> ExitCode {
     let outcome = outcome(&rt);
-    if let Some(stop) = &outcome.stop {
-        let _ = rt.stderr().write_all(stop_line(stop).bytes());
-    }
-    ExitCode::from(outcome.status)
+    // Where the standard error fails too, the status still tells of the stop.
+    let _ = tell_stop(&mut rt.stderr(), &outcome);
+    exit_code(&outcome)
 }
 
 /// Runs the words of the command line. Where one of them isn't UTF-8, they are no command.
@@ -34,8 +36,6 @@ fn outcome(rt: &HostRuntime) -> Outcome {
 }
 
 /// The current folder with the standard output, and the standard input.
-fn outside(
-    rt: &HostRuntime,
-) -> Result<(RealSite<HostRuntime>, RealSource<HostRuntime>), AllocError> {
-    Ok((RealSite::new(rt.clone()?), RealSource::new(rt.clone()?)))
+fn outside(rt: &HostRuntime) -> Result<(RealSite<HostRuntime>, RealSource<Stdin>), AllocError> {
+    Ok((RealSite::new(rt.clone()?), RealSource::new(rt.stdin())))
 }

@@ -1,5 +1,5 @@
 use Rattle.std.proofs.Common.{◌≡◌, ℕ, ◌+◌, ◌-◌, ◌≤◌, ◌++◌, List, [], length, take, arith, sym, ◌∙◌, ap, append-nil, append_assoc, length-append}
-use Rattle.ts_front.specs.Buffer.{Extends}
+use Rattle.ts_log.specs.Buffer.{Extends}
 use Rattle.ts_front.specs.Shared.{text_at}
 use Rattle.ts_front.specs.Pieces.{IsBlock}
 use Rattle.ts_front.proofs.MadeLemmas.{take_past}

@@ -1,5 +1,5 @@
 use Rattle.std.proofs.Common.{◌≡◌, ℕ, ◌++◌, List}
-use Rattle.ts_front.specs.Buffer.{Extends}
+use Rattle.ts_log.specs.Buffer.{Extends}
 use Rattle.ts_front.specs.Dictionary.{place_of}
 use Rattle.ts_front.specs.Pieces.{IsBlock}
 use Rattle.ts_front.proofs.BlockLemmas.{last_of}

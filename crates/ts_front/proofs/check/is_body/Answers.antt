@@ -6,7 +6,7 @@ use Rattle.ts_front.proofs.ReadsLemmas.{reads_none, reads_whole, candidate}
 use Rattle.ts_front.proofs.check.is_body.Goals as goal
 
 pub loop-i-init : goal.loop-i-init
-loop-i-init c = ([], (refl, reads_none c.args.starts.now c.args.body.now))
+loop-i-init c = ([], (refl, reads_none c.args.starts.now c.args.body.now _))
 
 pub returns-then-len-blocks_for-clause-no : goal.returns-then-len-blocks_for-clause-no
 returns-then-len-blocks_for-clause-no c = λ us many is.
@@ -23,7 +23,7 @@ returns-clause-yes c =
       texts,
       (
         many,
-        reads_whole c.args.starts.now c.args.body.now texts c.loop-i.reached.block c.loop-i.reached.place c.loop-i.reached.last c.loop-i.invariant.1.1 blocks
+        reads_whole c.args.starts.now c.args.body.now c.loop-i.pieces texts c.loop-i.reached.place c.loop-i.reached.last c.loop-i.invariant.1.1 blocks
             (eqb-true c.loop-i.reached.place (length c.args.body.now) e),
       ),
     ))
@@ -32,7 +32,7 @@ pub returns-clause-no : goal.returns-clause-no
 returns-clause-no c =
     OnFalse_from (nat_eq c.loop-i.reached.place (length c.args.body.now)) _ (λ e us many is.
     let texts = c.loop-i.invariant.0 in
-    let known = candidate c.args.starts.now c.args.body.now texts us c.loop-i.reached.block c.loop-i.reached.place c.loop-i.reached.last c.loop-i.i
+    let known = candidate c.args.starts.now c.args.body.now c.loop-i.pieces texts us c.loop-i.reached.place c.loop-i.reached.last c.loop-i.i
     c.loop-i.invariant.1.1 c.loop-i.invariant.1.0 is (omega arith) in
     let all : c.loop-i.i ≡ length us = omega arith in
     eqb-false c.loop-i.reached.place (length c.args.body.now) e (known.placed ∙ ap (place_of us) all ∙ ap length (sym is.spelled)))

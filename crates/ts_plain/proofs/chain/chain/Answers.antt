@@ -20,7 +20,7 @@ loop-next-preserved c =
       numbers = subst (λ (items : List (Bor PlainLayer)). map (λ layer. layer.now.number) items ++ chain_from history (number_of c.parent_of-next.result) ≡ chain_of history c.args.number) (sym c.in_ok-push.ensures.items) pushed;
       stand = All-same (λ (layer : Bor PlainLayer). StandsIn history layer.now) c.push.new.self.items (c.loop-next.chain.items ++ layer ∷ []) c.in_ok-push.ensures.items
           (All-push (λ (layer : Bor PlainLayer). StandsIn history layer.now) c.loop-next.chain.items layer c.loop-next.invariant.stand stands);
-      next = parent_stands history layer.now c.parent_of-next.result parent.some;
+      next = parent_stands history layer.now.parent c.parent_of-next.result parent.some;
     }
 
 pub returns : goal.returns

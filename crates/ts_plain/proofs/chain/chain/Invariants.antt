@@ -1,16 +1,10 @@
-use Rattle.std.proofs.Common.{◌≡◌, ℕ, ◌+◌, ◌++◌, map, Option, Some, None, All, IfSome}
-use denote.Ref.{Bor}
+use Rattle.std.proofs.Common.{◌≡◌, ◌++◌, map, All, IfSome}
 use Rattle.ts_model.specs.History.{chain_of}
 use Rattle.ts_model.proofs.HistoryLaws.{chain_from}
-use Rattle.ts_plain.specs.declared.write.PlainLayer.{PlainLayer}
 use Rattle.ts_plain.specs.Chain.{StandsIn}
 use Rattle.ts_plain.specs.History.{history_of}
-use Rattle.ts_plain.proofs.ChainLaws.{number_of}
+use Rattle.ts_plain.proofs.ChainLaws.{number_of, left}
 use Rattle.ts_plain.proofs.chain.chain.Given as goal
-
-abbrev left : Option (Bor PlainLayer) → ℕ
-left None = 0
-left (Some layer) = layer.now.number + 1
 
 abbrev pub invariant-loop-next : goal.invariant-loop-next
 invariant-loop-next l = record {

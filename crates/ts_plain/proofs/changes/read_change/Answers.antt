@@ -13,3 +13,8 @@ returns-in_err-triple-clause-err c =
     rw (p.1, p.2) (λ e triple rest is_triple is.
     c.in_err-triple.ensures.err e triple is_triple
     (line_is_first triple c.in-Some.line.text.now rest c.in-Some.line.rest.now is_triple c.in-Some.ensures.some.0 (sym c.in-Some.ensures.some.1 ∙ is)))
+
+pub returns-in_err-triple-clause-memory : goal.returns-in_err-triple-clause-memory
+returns-in_err-triple-clause-memory c =
+    let p = err_from_is_err_and c.from_residual.result c.from_residual.ensures.1 in
+    rw (p.1, p.2) (λ e. (c.in-Some.line.text.now, c.in-Some.line.rest.now, c.in-Some.ensures.some.1))

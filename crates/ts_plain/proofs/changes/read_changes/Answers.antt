@@ -5,7 +5,9 @@ use Rattle.std.proofs.lemmas.Result.{err_from_is_err_and}
 use Rattle.ts_model.specs.TextTriple.{IsTriple}
 use Rattle.ts_model.specs.Order.{triple_cmp}
 use Rattle.ts_plain.specs.PlainFile.{change_lines}
-use Rattle.ts_plain.proofs.SectionLaws.{lines_more, no_line, no_rise}
+use Rattle.ts_plain.proofs.EndLaws.{line_text}
+use Rattle.ts_plain.proofs.LineLaws.{line_before}
+use Rattle.ts_plain.proofs.SectionLaws.{begins_with_line, lines_more, no_line, no_rise}
 use Rattle.ts_plain.proofs.changes.read_changes.Goals as goal
 
 pub loop-behind-init : goal.loop-behind-init
@@ -49,3 +51,26 @@ loop-behind-preserved c =
           subst (λ triples. c.args.bytes.now ≡ change_lines c.args.sign triples ++ c.in_ok-change.change.rest.now) (sym pushed)
           (lines_more c.args.sign c.args.bytes.now c.loop-behind.triples.items t c.loop-behind.rest.now c.in-Some.behind.now c.in_ok-change.change.rest.now inv.lines c.in-Some.ensures.some read.1);
     }
+
+pub returns-in_err-change-clause-memory : goal.returns-in_err-change-clause-memory
+returns-in_err-change-clause-memory c =
+    let inv = c.loop-behind.invariant in
+    let sign = c.args.sign in
+    let p = err_from_is_err_and c.from_residual.result c.from_residual.ensures.1 in
+    rw (p.1, p.2) (λ e.
+    let line = c.in_err-change.ensures.memory e in
+    begins_with_line sign c.args.bytes.now c.loop-behind.triples.items c.loop-behind.rest.now inv.lines
+    (line.0, line.1, c.in-Some.ensures.some ∙ ap (λ l. sign ∷ 0x20 ∷ l) line.2))
+
+pub returns-in_err-push-clause-memory : goal.returns-in_err-push-clause-memory
+returns-in_err-push-clause-memory c =
+    let inv = c.loop-behind.invariant in
+    let sign = c.args.sign in
+    let change = c.in_ok-change.change in
+    let p = err_from_is_err_and c.from_residual-in_err-push.result c.from_residual-in_err-push.ensures.1 in
+    rw (p.1) (λ e.
+    begins_with_line sign c.args.bytes.now c.loop-behind.triples.items c.loop-behind.rest.now inv.lines (
+      line_text change.triple,
+      change.rest.now,
+      c.in-Some.ensures.some ∙ ap (λ l. sign ∷ 0x20 ∷ l) (c.in_ok-change.ensures.ok.1 ∙ line_before change.triple change.rest.now),
+    ))

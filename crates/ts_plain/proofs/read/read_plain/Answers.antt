@@ -1,9 +1,10 @@
-use Rattle.std.proofs.Common.{◌≡◌, [], ◌==◌, length, refl, sym, ap, ◌∙◌, subst, arith, true≢false}
+use Rattle.std.proofs.Common.{◌≡◌, inl, [], ◌==◌, length, refl, sym, ap, ◌∙◌, subst, arith, true≢false}
 use Rattle.std.proofs.lemmas.List.{nil_from_length}
 use Rattle.std.proofs.lemmas.Result.{err_from_is_err_and}
 use Rattle.ts_plain.specs.PlainReading.{AreApart}
 use Rattle.ts_plain.proofs.CutLaws.{length_zero}
 use Rattle.ts_plain.proofs.PlainLaws.{needs_additions, needs_removals, needs_end, needs_apart, is_layer}
+use Rattle.ts_plain.proofs.SectionLaws.{begins_with_either}
 use Rattle.ts_plain.proofs.read.read_plain.Goals as goal
 use Rattle.ts_plain.proofs.read.read_plain.Goals.{then-not-is_empty-via-then-not-is_empty, then-not-is_empty-via-else-not-is_empty+then-not-fit}
 
@@ -57,3 +58,25 @@ returns-clause-ok c =
     let layer = is_layer c.args.number c.args.bytes.now head.parent head.rest.now added.triples.items removed.triples.items added.rest.now removed.rest.now
     named.0 named.1 named.2 c.in_ok-additions.ensures.ok c.in_ok-removals.ensures.ok over both (λ none. sym c.as_slice.ensures.value ∙ apart.1 none) in
     (refl, layer.0, layer.1)
+
+pub returns-in_err-additions-clause-memory : goal.returns-in_err-additions-clause-memory
+returns-in_err-additions-clause-memory c =
+    let head = c.in-Some.head in
+    let named = c.in-Some.ensures.some in
+    let p = err_from_is_err_and c.from_residual.result c.from_residual.ensures.1 in
+    rw (p.1, p.2) (λ e. record { parent = head.parent; body = head.rest.now; numbered = named.0; parented = named.1; head = named.2; line = inl (c.in_err-additions.ensures.memory e) })
+
+pub returns-in_err-removals-clause-memory : goal.returns-in_err-removals-clause-memory
+returns-in_err-removals-clause-memory c =
+    let head = c.in-Some.head in
+    let named = c.in-Some.ensures.some in
+    let added = c.in_ok-additions.additions in
+    let p = err_from_is_err_and c.from_residual-in_err-removals.result c.from_residual-in_err-removals.ensures.1 in
+    rw (p.1, p.2) (λ e. record {
+      parent = head.parent;
+      body = head.rest.now;
+      numbered = named.0;
+      parented = named.1;
+      head = named.2;
+      line = begins_with_either 0x2B 0x2D head.rest.now added.triples.items added.rest.now c.in_ok-additions.ensures.ok.lines (c.in_err-removals.ensures.memory e);
+    })
