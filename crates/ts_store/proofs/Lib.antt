@@ -5,6 +5,7 @@ pub mod FoundLaws
 pub mod LookupLaws
 pub mod NameLaws
 pub mod NewBaseLaws
+pub mod NoLayers
 pub mod NumberLaws
 pub mod OneHistory
 pub mod OpenLaws

@@ -23,10 +23,8 @@ use Rattle.ts_store.specs.BaseLayers.{AreBaseLayers, history_of_bases}
 use Rattle.ts_store.specs.Step.{Stepped, does, refuses, with_layer, base_of, next_number, step_of}
 use Rattle.ts_store.proofs.NumberLaws.{AreBaseLayers-push, history_of_bases-push}
 use Rattle.ts_store.proofs.NewBaseLaws.{record_is, says_made, says_any, numbered}
-use Rattle.ts_store.specs.Keeps.{Keeps}
 use Rattle.ts_store.specs.AfterBase.{LeavesFiles, LeavesHistory}
 use Rattle.ts_store.specs.Files.{AreFilesOf}
-use Rattle.ts_store.specs.Keeps.{Keeps}
 use Rattle.ts_store.specs.Stops.{kind_of}
 
 module _ (layers : List BaseLayer) (last : Option ℕ) (body : List SignedTriple) (loaded : BaseLayer) (file : List ℕ) (are : AreBaseLayers layers) (newest : IsNewest layers last)

@@ -6,6 +6,7 @@ ghost use Rattle.ts_model.specs.TextTriple.{IsTriple};
 ghost use Rattle.ts_model.specs.NetChange.{net_additions};
 ghost use Rattle.ts_model.specs.Order.{triple_cmp};
 ghost use Rattle.ts_model.specs.Sets.{from_list, members};
+ghost use Rattle.ts_model.specs.Totals.{predicate_count, term_count};
 ghost use Rattle.ts_plain.specs.PlainFile.{plain_file};
 ghost use Rattle.ts_replace.specs.Names.{IsLayerNumber};
 ghost use Rattle.ts_store.specs.StepParts.{IsBaseOf, IsNewBase};
@@ -14,8 +15,8 @@ ghost use Rattle.ts_store.specs.Step.{are_counted, greatest_of, is_numbered, nex
 
 use crate::base_layer::{BaseLayer, base_layer_of};
 use std::alloc::{AllocError, Global};
-use ts_model::{SignedTriple, Totals, Triple, net_additions, totals_of};
-use ts_plain::{PlainLayer, write_plain};
+use ts_model::{SignedTriple, Totals, Triple, totals_of};
+use ts_plain::{PlainLayer, net_change, write_plain};
 
 /// The most terms and predicates of a chain.
 const GREATEST: u64 = 4_294_967_295;
@@ -57,12 +58,29 @@ fn make_numbered(
         (are_counted (members (net_additions empty body.now)) ≡ false)
         (λ made. IsBaseOf number body.now made.loaded made.file.items)) }
 {
-    let additions = net_additions(alloc, body)?;
-    let totals = totals_of(alloc, &additions)?;
+    let additions = base_additions(alloc, body)?;
+    let totals = base_totals(alloc, &additions)?;
     if !have_numbers(totals) {
         return Ok(None);
     }
     Ok(Some(build_base(alloc, number, additions)?))
+}
+
+/// What a body adds where nothing stands.
+fn base_additions(alloc: Global, body: &[SignedTriple]) -> Result<Vec<Triple>, AllocError>
+    ensures { IfOk result (λ additions. additions.items ≡ members (net_additions empty body.now)) }
+{
+    let change = net_change(alloc, &[], None, body)?;
+    Ok(change.additions)
+}
+
+/// How many terms and predicates the triples of a base have.
+fn base_totals(alloc: Global, additions: &[Triple]) -> Result<Totals, AllocError>
+    ensures terms { IfOk result (λ totals. totals.terms ≡ term_count additions.now) }
+    ensures predicates { IfOk result (λ totals. totals.predicates ≡ predicate_count additions.now) }
+{
+    let lent: Vec<&Triple> = additions.iter().collect(alloc)?;
+    totals_of(alloc, &lent)
 }
 
 /// Whether so many terms and predicates have numbers.
@@ -98,7 +116,6 @@ fn greatest(layers: &[BaseLayer]) -> u32
 fn build_base(alloc: Global, number: u32, additions: Vec<Triple>) -> Result<NewBase, AllocError>
     requires number { IsLayerNumber number }
     requires rise { IsStrictlySortedBy triple_cmp additions.items }
-    requires triples { All IsTriple additions.items }
     ensures { IfOk result (λ made. (made.loaded.number ≡ number) × IsBaseLayer made.loaded × All IsTriple additions.items
         × (from_list {R = triple_cmp} made.loaded.triples.items ≡ from_list additions.items)
         × (made.file.items ≡ plain_file number None additions.items [])) }

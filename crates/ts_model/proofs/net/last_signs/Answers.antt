@@ -8,7 +8,7 @@ use Rattle.ts_model.specs.declared.signed.SignedTriple.{SignedTriple}
 use Rattle.ts_model.specs.NetChange.{body_triples, last_sign}
 use Rattle.ts_model.specs.Sets.{members}
 use Rattle.ts_model.proofs.LentLaws.{lent, IsSorted-lent, IsStable-lent, dedup-lent, map-lent, All-from_lent}
-use Rattle.ts_model.proofs.NetLaws.{line_cmp, line_cmp_total, is_same, triples_of, named_are, signs_are}
+use Rattle.ts_model.proofs.NetLaws.{line_cmp, line_cmp_total, is_same, triples_of, body_triples_are, signs_are}
 use Rattle.ts_model.proofs.net.last_signs.Goals as goal
 
 -- the lines that are left, of lines that rise in a stable way
@@ -18,7 +18,7 @@ left_are : (body : List SignedTriple) (sorted : List (Bor SignedTriple)) (left :
 left_are body sorted left up stable is =
     let lines : lent left ≡ dedup is_same (lent sorted) = ap lent is ∙ sym (dedup-lent is_same sorted) in
     (
-      map-lent (λ (line : SignedTriple). line.triple) left ∙ ap triples_of lines ∙ named_are body (lent sorted) up stable,
+      map-lent (λ (line : SignedTriple). line.triple) left ∙ ap triples_of lines ∙ body_triples_are body (lent sorted) up stable,
       All-from_lent (λ line. last_sign body line.triple ≡ Some line.sign) left
       (subst (All (λ (line : SignedTriple). last_sign body line.triple ≡ Some line.sign)) (sym lines) (signs_are body (lent sorted) up stable)),
     )
