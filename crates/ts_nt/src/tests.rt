@@ -336,16 +336,21 @@ fn limits(rt: HostRuntime) -> Result<(), Fail> {
 #[test]
 fn terms_at_their_limit(rt: HostRuntime) -> Result<(), Fail> {
     let alloc = rt.alloc();
-    // each a line with one term of 1,048,576 bytes, which is printed with its sign and a line feed
+    // lines with one term of 1,048,576 bytes, each printed with its sign and a line feed, and of one more
     let lines = [
-        (b"<".as_slice(), 1_048_575, b"> <p> <b> .".as_slice()),
-        (b"<a> <", 1_048_579, b"> <b> ."),
-        (b"<a> <p> <", 1_048_583, b"> ."),
+        (
+            b"<".as_slice(),
+            1_048_575,
+            1_048_576,
+            b"> <p> <b> .".as_slice(),
+        ),
+        (b"<a> <", 1_048_579, 1_048_580, b"> <b> ."),
+        (b"<a> <p> <", 1_048_583, 1_048_584, b"> ."),
     ];
-    for (front, length, rest) in lines {
-        let line = long_line(alloc, front, length, rest)?;
+    for (front, within, over, rest) in lines {
+        let line = long_line(alloc, front, within, rest)?;
         assert_eq!(rt; shown(alloc, line.as_slice())?.len(), 1_048_576 + 12);
-        let line = long_line(alloc, front, length + 1, rest)?;
+        let line = long_line(alloc, front, over, rest)?;
         assert_eq!(rt;
             shown(alloc, line.as_slice())?.as_slice(),
             b"too long".as_slice()
