@@ -1,14 +1,15 @@
-//! The plain file of a layer, and the listing of a layer from such files.
+//! The plain representation of layers: a readable file for each, and what a list of them says.
 //!
-//! [`write_plain`] makes the file of a [`PlainLayer`]: one readable line for the layer, and one for each change. Its
-//! number and its parent's are at least 1, its additions and removals rise and have no triple in common, its parent is
-//! less than it, and it has no removals where it has no parent. [`read_plain`] gives the layer of a file, or
-//! [`PlainError`]. [`plain_listing`] gives the triples of a layer in birth order: it climbs down the chain by binary
-//! search, replays the chain from its base over one sorted set, notes the first layer of each term, and sorts once.
+//! A [`PlainLayer`] is a layer's number, its parent's and its changes. [`write_plain`] makes its file, and [`read_plain`]
+//! gives the layer of a file, or [`PlainError`]. Layers in rising number of which each keeps to its place over the layers
+//! before it ([`keeps_to_place`]) are a history. Over such layers [`layer_at`] finds a layer, [`holds`] tells whether a
+//! layer has a triple, [`plain_listing`] and [`listing_of`] give its triples in birth order and [`changes_of`] its own
+//! additions or removals, and [`content_of`] gives its triples as they rise. [`net_change`] is what a body changes over a
+//! parent, a [`NetChange`], and [`totals_after`] counts the terms that a new layer then has.
 //!
-//! The layer above uses that the bytes that are written are exactly the layer's plain file, that bytes are read just where
-//! they are exactly such a file, that such a file is that of one layer ([`one_layer`]), and that a listing is exactly the
-//! listing of the layer in the history that the layers make.
+//! The layer above uses that each of these is what `ts_model` defines of the history that the layers make; that the bytes
+//! that are written are exactly the layer's plain file, and are read just where they are; and that such a file is that of
+//! one layer ([`one_layer`]).
 #![tactic(auto)]
 
 pub use chain::layer_at;
