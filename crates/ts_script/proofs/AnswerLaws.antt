@@ -7,7 +7,7 @@ use Rattle.ts_model.specs.declared.signed.SignedTriple.{SignedTriple}
 use Rattle.ts_model.specs.TextTriple.{TextTriple, IsTriple}
 use Rattle.ts_nt.specs.LineRead.{Answers, IsBad, IsReadAs, IsSilent, IsTooLong, IsWithinLimits, Spells}
 use Rattle.ts_nt.proofs.ScalarLaws.{All-chars}
-use Rattle.ts_script.specs.Lines.{line_limit}
+use Rattle.ts_nt.specs.Limits.{line_limit}
 use Rattle.ts_nt.proofs.TripleLaws.{silent_is_none, text_canonical, text_once}
 
 silent_or_spells : (line : List ℕ) (sign : Sign) (triple : TextTriple) → IsSilent line → Spells line sign triple → ⊥

@@ -4,7 +4,8 @@ use Rattle.std.specs.Prelude.{nat_le, if◌then◌else◌, flat_map, Option, Som
 use Rattle.std.proofs.lemmas.Bool.{leb-false}
 use Rattle.ts_model.specs.declared.signed.SignedTriple.{SignedTriple}
 use Rattle.ts_nt.specs.LineRead.{Answers}
-use Rattle.ts_script.specs.Lines.{line_limit, LineView, line_view}
+use Rattle.ts_script.specs.Lines.{LineView, line_view}
+use Rattle.ts_nt.specs.Limits.{line_limit}
 use Rattle.ts_script.specs.Body.{AreReadAs, SpellBody, IsFirstFault, IsFaultOf}
 use Rattle.ts_script.specs.declared.body.BodyFault.{BodyFault}
 use Rattle.ts_script.specs.declared.body.BodyFault.TheVariants.{Bad, TooLong}

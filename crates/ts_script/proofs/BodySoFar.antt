@@ -3,7 +3,8 @@ use Rattle.std.proofs.Common.{◌≡◌, inl, inr, ℕ, zero, suc, ◌+◌, ◌<
 use Rattle.std.specs.Prelude.{nat_le, if◌then◌else◌, Option}
 use Rattle.std.proofs.lemmas.Bool.{leb-true}
 use Rattle.ts_model.specs.declared.signed.SignedTriple.{SignedTriple}
-use Rattle.ts_script.specs.Lines.{line_limit, LineView, line_view, overlong, lines_after, lines_behind}
+use Rattle.ts_script.specs.Lines.{LineView, line_view, overlong, lines_after, lines_behind}
+use Rattle.ts_nt.specs.Limits.{line_limit}
 use Rattle.ts_script.specs.Cutting.{lines_to_come, view_of, IsNext, GivesLine}
 use Rattle.ts_script.specs.declared.cutter.Line.{Line}
 use Rattle.ts_script.specs.Body.{IsFaultOf}

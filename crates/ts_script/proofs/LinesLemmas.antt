@@ -5,7 +5,8 @@ use Rattle.std.proofs.Math.Seq.{take-add}
 use Rattle.std.proofs.lemmas.List.{get_or_default, drop-take, take-append-drop}
 use Rattle.std.specs.Prelude.{Option, None, Some, IfSome, IfNone}
 use Rattle.memchr.specs.Find.{IsFirstByte, is_byte2}
-use Rattle.ts_script.specs.Lines.{line_limit, is_end, HasNoEnd, onto_first, lines_after, line_view, overlong, view_after, lines_behind}
+use Rattle.ts_script.specs.Lines.{is_end, HasNoEnd, onto_first, lines_after, line_view, overlong, view_after, lines_behind}
+use Rattle.ts_nt.specs.Limits.{line_limit}
 
 is_false : (b : Bool) → (b ≡ true → ⊥) → b ≡ false
 is_false true h = absurd (h refl)

@@ -1,6 +1,7 @@
 -- What a cutter keeps between two lines, and what a call gives.
 use Rattle.std.specs.Prelude.{◌⊎◌, Option, None, Some, Result, Ok, Err, IfOk, IfErr, ◌≡◌, ℕ, ◌+◌, ◌-◌, ◌<◌, ◌≤◌, Bool, true, false, List, [], ◌∷◌, ◌++◌, length, slice_range}
-use Rattle.ts_script.specs.Lines.{line_limit, HasNoEnd, LineView, lines_behind, feed_of, first_length}
+use Rattle.ts_script.specs.Lines.{HasNoEnd, LineView, lines_behind, feed_of, first_length}
+use Rattle.ts_nt.specs.Limits.{line_limit}
 use Rattle.ts_script.specs.declared.cutter.LineCutter.{LineCutter}
 use Rattle.ts_script.specs.declared.cutter.Span.{Span}
 use Rattle.ts_script.specs.declared.cutter.Line.{Line}

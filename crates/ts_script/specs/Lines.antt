@@ -1,10 +1,7 @@
 -- The lines of a text.
 use Rattle.std.specs.Prelude.{◌≡◌, ℕ, ◌+◌, ◌==◌, ◌||◌, nat_le, Bool, true, false, if◌then◌else◌, List, [], ◌∷◌, length, map, drop, refl}
 use Rattle.std.specs.List.{list_any}
-
--- how many bytes a line may have, without its end
-abbrev pub line_limit : ℕ
-line_limit = 4194304
+use Rattle.ts_nt.specs.Limits.{line_limit}
 
 -- how many bytes a cutter buffers: a line, and a piece of the input behind it
 abbrev pub buffer_size : ℕ

@@ -1,6 +1,7 @@
 // The lines of an input, one at a time.
 ghost use Rattle.std.specs.Prelude.{◌≡◌, ◌≢◌, ◌⊎◌, ◌+◌, ◌-◌, ◌≤◌, ◌<◌, ℕ, List, [], ◌∷◌, ◌++◌, length, map, take, drop, slice_index, slice_range, IsTrue, IfSome, IfNone, IfOk, MatchResult, is_err, true, false, vec_len};
-ghost use Rattle.ts_script.specs.Lines.{line_limit, buffer_size, HasNoEnd, is_end, view_after, line_view, lines_of, feed_of};
+ghost use Rattle.ts_script.specs.Lines.{buffer_size, HasNoEnd, is_end, view_after, line_view, lines_of, feed_of};
+ghost use Rattle.ts_nt.specs.Limits.{line_limit};
 ghost use Rattle.ts_site.specs.Faults.{CountsFault, is_err_and};
 ghost use Rattle.ts_script.specs.StopFaults.{is_input_fault};
 ghost use Rattle.ts_site.specs.Telling.{Tells};
@@ -10,9 +11,8 @@ ghost use Rattle.std.specs.Io.BufRead.{Rests};
 
 use memchr::memchr2;
 use std::alloc::{AllocError, Global};
+use ts_nt::LINE_LIMIT;
 use ts_site::{Failed, Source};
-
-const LINE_LIMIT: usize = 4_194_304;
 
 const PIECE: usize = 65_536;
 

@@ -3,7 +3,8 @@ use Rattle.ts_script.specs.Cutting.{buffered}
 use Rattle.ts_script.proofs.LinesLemmas.{lines_behind-gone, not_after_return, length-slice_range}
 use Rattle.ts_script.proofs.OffsetLemmas.{feed-none, not_return}
 use Rattle.ts_script.proofs.EndLemmas.{first_length-front}
-use Rattle.ts_script.specs.Lines.{line_limit, first_length}
+use Rattle.ts_script.specs.Lines.{first_length}
+use Rattle.ts_nt.specs.Limits.{line_limit}
 use Rattle.ts_script.proofs.cutter.LineCutter.discard_overlong.Goals as goal
 use Rattle.ts_script.proofs.cutter.LineCutter.discard_overlong.Goals.{then-self-via-then-self, then-self-via-else-self+then-self-gt-LINE_LIMIT}
 
