@@ -36,7 +36,6 @@ LeavesFiles (Err OutputFault) after old new = new ≡ after
 LeavesFiles (Err DiskFault) after old new = IsAnyAt new_tmp old new ⊎ ((new ≡ old) ⊎ (new ≡ after))
 LeavesFiles (Err _) after old new = new ≡ old
 
-
 -- What is true of the history after the step, also where only its reply was not said; of the one before it; at a fault of the disk
 -- of one of the two.
 abbrev pub LeavesHistory : (History → Type 0) → Result Kind Stop → History → History → Type 0

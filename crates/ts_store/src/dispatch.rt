@@ -11,9 +11,9 @@ ghost use Rattle.ts_store.specs.Memory.{TakesNoMemory, is_listing};
 ghost use Rattle.ts_store.specs.Stops.{IsStepStop, KeepsTelling, is_disk_fault, is_output_fault, kind_of};
 
 use crate::answer::refuse;
-use crate::queries::{has_at, list_at};
 use crate::base_layer::BaseLayer;
 use crate::publish::make_base;
+use crate::queries::{has_at, list_at};
 use crate::{Kind, Stop};
 use std::alloc::Global;
 use ts_script::{Command, Ref, Refusal};

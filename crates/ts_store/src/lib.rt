@@ -13,16 +13,16 @@ pub use session::Session;
 pub use stop::{Kind, Stop};
 
 mod answer;
-mod queries;
 mod base;
+mod base_layer;
 mod dispatch;
 mod find;
 mod law;
 mod listing;
-mod base_layer;
 mod open;
 mod order;
 mod publish;
+mod queries;
 mod session;
 mod stop;
 #[cfg(test)]

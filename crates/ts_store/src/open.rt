@@ -75,7 +75,11 @@ fn no_others(found: &Folder) -> Result<(), Stop>
 }
 
 /// Reads the layers of these numbers, which rise.
-fn read_layers<W: Site>(alloc: Global, site: &mut W, numbers: &[u32]) -> Result<Vec<BaseLayer>, Stop>
+fn read_layers<W: Site>(
+    alloc: Global,
+    site: &mut W,
+    numbers: &[u32],
+) -> Result<Vec<BaseLayer>, Stop>
     requires rise { IsStrictlyIncreasing numbers.now }
     requires numbers { All IsLayerNumber numbers.now }
     requires stand { IsTrue (W.outside site.old).tells_folder → All (λ n. IsTrue (contains_key (W.outside site.old).folder (layer_name n))) numbers.now }

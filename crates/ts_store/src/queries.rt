@@ -9,9 +9,9 @@ ghost use Rattle.ts_store.specs.Leaves.{LeavesTold};
 ghost use Rattle.ts_store.specs.Stops.{is_output_fault, kind_of};
 
 use crate::answer::{refuse, reply};
+use crate::base_layer::BaseLayer;
 use crate::find::resolve;
 use crate::listing::list;
-use crate::base_layer::BaseLayer;
 use crate::order::has;
 use crate::{Kind, Stop};
 use std::alloc::Global;

@@ -7,8 +7,8 @@ ghost use Rattle.std.specs.List.Sorted.{IsStrictlySortedBy-prop};
 ghost use Rattle.ts_store.specs.StepParts.{IsNewest};
 ghost use Rattle.ts_store.specs.BaseLayers.{AreBaseLayers};
 
-use crate::dispatch::dispatch;
 use crate::base_layer::BaseLayer;
+use crate::dispatch::dispatch;
 use crate::open::read_folder;
 use crate::stop::stop_of;
 use crate::{Kind, Stop};

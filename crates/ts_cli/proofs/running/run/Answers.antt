@@ -26,7 +26,7 @@ returns-in-Err-step-clause-replies g c = λ state commands fresh told stands tel
     let left = g.S.Source.left c.args.input.now in
     let s : Change = change_of (g.W.Disk.outside c.args.site.now) (g.W.Disk.outside c.step.new.site) in
     let answer : Result Kind Stop = Err c.in-Err-step.stop in
-    let ends : Ends s (Asks words tells_input left) answer = ends_asked s (λ asked. asked ≡ c.in-Ok.command) (Asks words tells_input left) answer (λ asked is. rw is c.in-Ok.ensures.asks) c.in-Err-step.ensures.ends told in
+    let ends : Ends s (Asks words tells_input left) answer = ends_asked s (λ asked. asked ≡ c.in-Ok.command) (Asks words tells_input left) answer (λ asked is. rw is c.in-Ok.ensures.asks) (c.in-Err-step.ensures.ends told) in
     headline_replies s told words tells_input tells left state fresh stands commands are c.stopped-in-Err-step.result answer c.stopped-in-Err-step.ensures ends output
 
 pub returns-in-Err-step-clause-folder : goal.returns-in-Err-step-clause-folder
@@ -36,7 +36,7 @@ returns-in-Err-step-clause-folder g c = λ state commands fresh told stands tell
     let left = g.S.Source.left c.args.input.now in
     let s : Change = change_of (g.W.Disk.outside c.args.site.now) (g.W.Disk.outside c.step.new.site) in
     let answer : Result Kind Stop = Err c.in-Err-step.stop in
-    let ends : Ends s (Asks words tells_input left) answer = ends_asked s (λ asked. asked ≡ c.in-Ok.command) (Asks words tells_input left) answer (λ asked is. rw is c.in-Ok.ensures.asks) c.in-Err-step.ensures.ends told in
+    let ends : Ends s (Asks words tells_input left) answer = ends_asked s (λ asked. asked ≡ c.in-Ok.command) (Asks words tells_input left) answer (λ asked is. rw is c.in-Ok.ensures.asks) (c.in-Err-step.ensures.ends told) in
     headline_folder s told words tells_input tells left state fresh stands commands are c.stopped-in-Err-step.result answer c.stopped-in-Err-step.ensures ends
 
 pub returns-clause-replies : goal.returns-clause-replies
@@ -46,7 +46,7 @@ returns-clause-replies g c = λ state commands fresh told stands tells are outpu
     let left = g.S.Source.left c.args.input.now in
     let s : Change = change_of (g.W.Disk.outside c.args.site.now) (g.W.Disk.outside c.step.new.site) in
     let answer : Result Kind Stop = Ok c.in-Ok-step.kind in
-    let ends : Ends s (Asks words tells_input left) answer = ends_asked s (λ asked. asked ≡ c.in-Ok.command) (Asks words tells_input left) answer (λ asked is. rw is c.in-Ok.ensures.asks) c.in-Ok-step.ensures.ends told in
+    let ends : Ends s (Asks words tells_input left) answer = ends_asked s (λ asked. asked ≡ c.in-Ok.command) (Asks words tells_input left) answer (λ asked is. rw is c.in-Ok.ensures.asks) (c.in-Ok-step.ensures.ends told) in
     headline_replies s told words tells_input tells left state fresh stands commands are c.answered.result answer c.answered.ensures ends output
 
 pub returns-clause-folder : goal.returns-clause-folder
@@ -56,7 +56,7 @@ returns-clause-folder g c = λ state commands fresh told stands tells are.
     let left = g.S.Source.left c.args.input.now in
     let s : Change = change_of (g.W.Disk.outside c.args.site.now) (g.W.Disk.outside c.step.new.site) in
     let answer : Result Kind Stop = Ok c.in-Ok-step.kind in
-    let ends : Ends s (Asks words tells_input left) answer = ends_asked s (λ asked. asked ≡ c.in-Ok.command) (Asks words tells_input left) answer (λ asked is. rw is c.in-Ok.ensures.asks) c.in-Ok-step.ensures.ends told in
+    let ends : Ends s (Asks words tells_input left) answer = ends_asked s (λ asked. asked ≡ c.in-Ok.command) (Asks words tells_input left) answer (λ asked is. rw is c.in-Ok.ensures.asks) (c.in-Ok-step.ensures.ends told) in
     headline_folder s told words tells_input tells left state fresh stands commands are c.answered.result answer c.answered.ensures ends
 
 pub returns-in-Err-step-clause-complete : goal.returns-in-Err-step-clause-complete
@@ -79,7 +79,7 @@ returns-in-Err-step-clause-causes g c =
     let answer : Result Kind Stop = Err c.in-Err-step.stop in
     let outcome = c.stopped-in-Err-step.result in
     let is = c.stopped-in-Err-step.ensures in
-    let ends : IsTrue s.before.tells_folder → Ends s (Asks words tells_input left) answer = λ told. ends_asked s (λ asked. asked ≡ c.in-Ok.command) (Asks words tells_input left) answer (λ asked is. rw is c.in-Ok.ensures.asks) c.in-Err-step.ensures.ends told in
+    let ends : IsTrue s.before.tells_folder → Ends s (Asks words tells_input left) answer = λ told. ends_asked s (λ asked. asked ≡ c.in-Ok.command) (Asks words tells_input left) answer (λ asked is. rw is c.in-Ok.ensures.asks) (c.in-Err-step.ensures.ends told) in
     let later : (stop : Stop) → stop_of answer ≡ Some stop → IsReadingStop stop → ⊥ = λ stop same reading. c.in-Err-step.ensures.why (subst IsReadingStop (some_is stop c.in-Err-step.stop (sym same)) reading) in (
       usage_read outcome answer is later words (λ none. read_no_stop c.in-Ok.command (c.in-Ok.ensures.no_command none)),
       fault_is outcome answer is later is_disk_fault _ _ c.in-Err-step.ensures.disk,
@@ -98,7 +98,7 @@ returns-clause-causes g c =
     let answer : Result Kind Stop = Ok c.in-Ok-step.kind in
     let outcome = c.answered.result in
     let is = c.answered.ensures in
-    let ends : IsTrue s.before.tells_folder → Ends s (Asks words tells_input left) answer = λ told. ends_asked s (λ asked. asked ≡ c.in-Ok.command) (Asks words tells_input left) answer (λ asked is. rw is c.in-Ok.ensures.asks) c.in-Ok-step.ensures.ends told in
+    let ends : IsTrue s.before.tells_folder → Ends s (Asks words tells_input left) answer = λ told. ends_asked s (λ asked. asked ≡ c.in-Ok.command) (Asks words tells_input left) answer (λ asked is. rw is c.in-Ok.ensures.asks) (c.in-Ok-step.ensures.ends told) in
     let later : (stop : Stop) → stop_of answer ≡ Some stop → IsReadingStop stop → ⊥ = λ stop same reading. cc in (
       usage_read outcome answer is later words (λ none. read_no_stop c.in-Ok.command (c.in-Ok.ensures.no_command none)),
       fault_is outcome answer is later is_disk_fault _ _ c.in-Ok-step.ensures.disk,

@@ -16,11 +16,10 @@ left_are : (body : List SignedTriple) (sorted : List (Bor SignedTriple)) (left :
     → left ≡ dedup (λ x y. is_same x.now y.now) sorted
     → (map (λ line. line.now.triple) left ≡ members (body_triples body)) × All (λ line. last_sign body line.now.triple ≡ Some line.now.sign) left
 left_are body sorted left up stable is =
-    let lines : lent left ≡ dedup is_same (lent sorted) = ap lent is ∙ sym (dedup-lent is_same sorted) in
-    (
+    let lines : lent left ≡ dedup is_same (lent sorted) = ap lent is ∙ sym (dedup-lent is_same sorted) in (
       map-lent (λ (line : SignedTriple). line.triple) left ∙ ap triples_of lines ∙ body_triples_are body (lent sorted) up stable,
       All-from_lent (λ line. last_sign body line.triple ≡ Some line.sign) left
-      (subst (All (λ (line : SignedTriple). last_sign body line.triple ≡ Some line.sign)) (sym lines) (signs_are body (lent sorted) up stable)),
+          (subst (All (λ (line : SignedTriple). last_sign body line.triple ≡ Some line.sign)) (sym lines) (signs_are body (lent sorted) up stable)),
     )
 
 pub returns : goal.returns
