@@ -4,7 +4,7 @@ use Rattle.std.specs.Prelude.{Result, Ok, Err}
 use Rattle.ts_model.specs.declared.signed.SignedTriple.{SignedTriple}
 use Rattle.ts_model.specs.TextTriple.{IsTriple}
 use Rattle.ts_script.specs.Body.{IsBodyRead}
-use Rattle.ts_script.specs.Heads.{Name, base, list, has, IsHead, IsHeadOf}
+use Rattle.ts_script.specs.Heads.{Name, base, list, has, IsHeadOf}
 use Rattle.ts_script.specs.Commands.{completed, IsCompleted, IsCommand, IsNoCommand}
 use Rattle.ts_script.specs.declared.body.BodyFault.{BodyFault}
 use Rattle.ts_script.specs.declared.body.BodyFault.TheVariants.{Bad, TooLong}

@@ -1,12 +1,11 @@
 -- Words are one head.
-use Rattle.std.proofs.Common.{◌≡◌, ◌⊎◌, ℕ, ◌<◌, ◌^◌, true, List, [], ◌∷◌, length, get_or, drop, codes, bytes_eq, if◌then◌else◌, refl, sym, ap, ◌∙◌, subst, chars, arith, true≢false}
+use Rattle.std.proofs.Common.{◌≡◌, ◌⊎◌, ℕ, ◌<◌, ◌^◌, List, [], ◌∷◌, get_or, drop, codes, bytes_eq, if◌then◌else◌, refl, sym, ap, ◌∙◌, subst, chars}
 use Rattle.std.specs.Int.{w32, to_be_bytes, from_be_bytes}
 use Rattle.std.specs.Result.{result_unwrap_or}
 use Rattle.std.proofs.lemmas.Nat.{from_be_bytes-to_be_bytes_4}
-use Rattle.ts_model.specs.declared.pattern.Pattern.{Pattern}
 use Rattle.ts_model.specs.declared.term.TermKind.{TermKind}
 use Rattle.ts_model.specs.declared.term.TermKind.TheVariants.{Node, Value}
-use Rattle.ts_model.specs.TextTriple.{TextTriple, HasKinds}
+use Rattle.ts_model.specs.TextTriple.{TextTriple}
 use Rattle.ts_model.specs.LayerText.{layer_text}
 use Rattle.ts_model.specs.TextTerm.{TextTerm}
 use Rattle.ts_model.proofs.LayerLemmas.{decoded}
@@ -17,7 +16,7 @@ use Rattle.ts_nt.proofs.TripleLaws.{kind_once}
 use Rattle.ts_script.specs.Words.{IsLayerWord, IsRefWord, IsTermWord, SpellTriple, unbound}
 use Rattle.ts_script.specs.Heads.{Name, base, list, has, name_word, IsHeadOf, IsHead}
 use Rattle.ts_script.specs.declared.head.Head.{Head}
-use Rattle.ts_script.specs.declared.head.Head.TheVariants.{Whole, Awaits}
+use Rattle.ts_script.specs.declared.head.Head.TheVariants.{Whole}
 use Rattle.ts_script.specs.declared.command.LayerRef.{LayerRef}
 use Rattle.ts_script.specs.declared.command.LayerRef.TheVariants.{Number, Last}
 use Rattle.ts_script.specs.declared.command.Ref.{Ref}

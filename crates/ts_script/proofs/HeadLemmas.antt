@@ -1,9 +1,9 @@
 -- The words of a command as a name and the words behind it.
-use Rattle.std.proofs.Common.{◌≡◌, ℕ, ◌<◌, ◌≤◌, List, [], ◌∷◌, length, get_or, take, map, refl, sym, ap, ◌∙◌, arith}
+use Rattle.std.proofs.Common.{◌≡◌, ℕ, ◌<◌, ◌≤◌, List, [], ◌∷◌, length, get_or, take, refl, ap, arith}
 use Rattle.std.specs.Borrow.{Bor}
-use Rattle.std.specs.Prelude.{Option, Some, None, IfSome, IfNone, Result, IfOk, IfErr}
+use Rattle.std.specs.Prelude.{Option, Some, None, IfSome, IfNone}
 use Rattle.ts_script.specs.Words.{texts}
-use Rattle.ts_script.specs.Heads.{Name, base, list, has, name_word, IsHead, IsHeadOf, AreNoHead}
+use Rattle.ts_script.specs.Heads.{Name, name_word, IsHead, IsHeadOf, AreNoHead}
 use Rattle.ts_script.specs.declared.head.Head.{Head}
 use Rattle.ts_script.proofs.HeadLaws.{head_by_name}
 

@@ -169,17 +169,22 @@ fn words_ask_whether_a_layer_has_a_triple(rt: HostRuntime) -> Result<(), Fail> {
         }
         _ => return Err("no has")?,
     }
-    match asked(alloc, "has last <a> <p> _:o")? {
+    assert!(rt; asked(alloc, "has 00000001 <a> <p> b")?.is_none());
+    assert!(rt; asked(alloc, "has 00000001 \"a\" <p> <b>")?.is_none());
+    assert!(rt; asked(alloc, "has 00000001 <a> _:p <b>")?.is_none());
+    assert!(rt; asked(alloc, "has 00000001 <a> <p> ")?.is_none());
+    Ok(())
+}
+
+#[test]
+fn a_blank_label_is_an_object(rt: HostRuntime) -> Result<(), Fail> {
+    match asked(rt.alloc(), "has last <a> <p> _:o")? {
         Some(Command::Has { triple, .. }) => {
             assert_eq!(rt; triple.object().spelling(), b"_:o".as_slice());
             assert_eq!(rt; triple.object().kind(), TermKind::Node);
         }
         _ => return Err("no has")?,
     }
-    assert!(rt; asked(alloc, "has 00000001 <a> <p> b")?.is_none());
-    assert!(rt; asked(alloc, "has 00000001 \"a\" <p> <b>")?.is_none());
-    assert!(rt; asked(alloc, "has 00000001 <a> _:p <b>")?.is_none());
-    assert!(rt; asked(alloc, "has 00000001 <a> <p> ")?.is_none());
     Ok(())
 }
 

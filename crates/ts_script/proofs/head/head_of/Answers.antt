@@ -1,4 +1,4 @@
-use Rattle.std.proofs.Common.{ℕ, List, [], ◌∷◌, codes}
+use Rattle.std.proofs.Common.{[], codes}
 use Rattle.std.proofs.lemmas.Result.{IfOk-weaker, IfErr-weaker}
 use Rattle.ts_script.specs.Heads.{list, has}
 use Rattle.ts_script.proofs.HeadLemmas.{none-behind, two_words, five_words}
