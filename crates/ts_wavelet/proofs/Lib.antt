@@ -1,0 +1,5 @@
+pub mod Filters
+pub mod Counts
+pub mod Orders
+pub mod Trees
+pub mod Descents

@@ -1,0 +1,89 @@
+//! The format's worked bytes, refused bytes, and longer sequences.
+
+use crate::{write_wavelet, WaveletView};
+use std::alloc::{AllocError, Global};
+use std::test::Fail;
+
+// The wavelet tree of 1, 2, 1.
+const THREE: [u8; 40] = [
+    2, 0, 0, 0, 0, 0, 0, 0, 0, 0, 0, 0, 0, 0, 0, 6, 0x58, 0, 0, 0, 0, 0, 0, 0, 0, 0, 0, 0, 0, 0, 0,
+    0, 0, 0, 0, 0, 0, 0, 0, 0,
+];
+
+#[test]
+fn writes_three_numbers(rt: HostRuntime) -> Result<(), Fail> {
+    let mut bytes = Vec::new(rt.alloc());
+    write_wavelet(rt.alloc(), &[1, 2, 1], &mut bytes)?;
+    assert_eq!(rt; bytes.as_slice(), THREE.as_slice());
+    Ok(())
+}
+
+#[test]
+fn reads_three_numbers(rt: HostRuntime) {
+    let view = WaveletView::open(&THREE, 3).expect(&rt, "three numbers");
+    assert_eq!(rt; view.len(), 3);
+    assert_eq!(rt; view.at(0), 1);
+    assert_eq!(rt; view.at(1), 2);
+    assert_eq!(rt; view.at(2), 1);
+    assert_eq!(rt; view.rank(1, 3), 2);
+    assert_eq!(rt; view.rank(4, 3), 0);
+    assert_eq!(rt; view.select(1, 1), Some(2));
+    assert_eq!(rt; view.select(2, 1), None);
+    assert_eq!(rt; view.select(4, 0), None);
+}
+
+#[test]
+fn goes_over_places(rt: HostRuntime) {
+    let view = WaveletView::of_checked(&THREE, 3).copy();
+    let mut all = view.places(1);
+    assert_eq!(rt; all.next(), Some(0));
+    assert_eq!(rt; all.next(), Some(2));
+    assert_eq!(rt; all.next(), None);
+    let mut some = view.places_from(1, 1);
+    assert_eq!(rt; some.next(), Some(2));
+    assert_eq!(rt; some.next(), None);
+    assert_eq!(rt; view.places(4).next(), None);
+}
+
+#[test]
+fn refuses_other_bytes(rt: HostRuntime) {
+    assert!(rt; WaveletView::open(&THREE, 2).is_none(), "another length");
+    let mut wide = THREE;
+    wide[0] = 65;
+    assert!(rt; WaveletView::open(&wide, 3).is_none(), "too wide");
+    let mut filled = THREE;
+    filled[7] = 1;
+    assert!(rt; WaveletView::open(&filled, 3).is_none(), "a byte behind the width");
+    let mut spare = THREE;
+    spare[16] = 0x1c;
+    assert!(rt; WaveletView::open(&spare, 3).is_none(), "no number needs the width, or a 0");
+    let mut zero = THREE;
+    zero[16] = 0x48;
+    assert!(rt; WaveletView::open(&zero, 3).is_none(), "a number 0");
+    assert!(rt; WaveletView::open(&[], 0).is_none(), "no bytes");
+}
+
+// A sequence of numbers below 100, and the places of each, found and gone over.
+fn sequence_of(alloc: Global) -> Result<Vec<u64>, AllocError> {
+    let mut sequence = Vec::new(alloc);
+    for i in 0..1000u64 {
+        sequence.push(1 + i * i % 97)?;
+    }
+    Ok(sequence)
+}
+
+#[test]
+fn finds_each_number(rt: HostRuntime) -> Result<(), Fail> {
+    let sequence = sequence_of(rt.alloc())?;
+    let mut bytes = Vec::new(rt.alloc());
+    write_wavelet(rt.alloc(), &sequence, &mut bytes)?;
+    let view = WaveletView::open(&bytes, 1000).expect(&rt, "what was written");
+    for (j, p) in sequence.iter().enumerate() {
+        let place = j as u64;
+        assert_eq!(rt; view.at(place), *p);
+        let before = view.rank(*p, place);
+        assert_eq!(rt; view.select(*p, before), Some(place));
+        assert_eq!(rt; view.places_from(*p, place).next(), Some(place));
+    }
+    Ok(())
+}
