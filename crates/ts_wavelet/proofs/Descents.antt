@@ -1,19 +1,25 @@
 -- The way down the levels and up again.
-use Rattle.std.proofs.Common.{◌≡◌, ℕ, zero, suc, ◌+◌, ◌-◌, ◌*◌, ◌/◌, ◌%◌, ◌^◌, ◌<◌, ◌≤◌, Bool, true, false, cond, eqb, Some, List, length, take, get_or, slice_get, refl, sym, ap, subst, ◌∙◌, arith, inl, inr}
-use Rattle.std.proofs.lemmas.Bool.{cases_lt, cases_eq, cases_order, eqb-true, eq-eqb}
+use Rattle.std.proofs.Common.{◌≡◌, ℕ, zero, suc, ◌+◌, ◌-◌, ◌*◌, ◌/◌, ◌%◌, ◌^◌, ◌<◌, ◌≤◌, ◌↔◌, Bool, true, false, cond, eqb, Option, Some, None, List, length, take, get_or, slice_get, refl, sym, ap, subst, ◌∙◌, arith, inl, inr}
+use Rattle.std.proofs.lemmas.Bool.{cases_lt, cases_eq, cases_order, eqb-true, eq-eqb, ne_eqb}
 use Rattle.std.proofs.lemmas.List.{take_all}
 use Rattle.std.proofs.lemmas.Nat.Bits.{bit_at-lt}
 use Rattle.std.proofs.lemmas.Option.{slice_get-get_or, slice_get_within, get_or_from_slice_get}
-use Rattle.std.proofs.Math.Nat.{div-one}
+use Rattle.std.proofs.Math.Nat.{div-one, div-eq_of_lt}
+use Rattle.std.proofs.Math.Pow.{pow_mono}
+use Rattle.std.proofs.lemmas.Nat.{shr_le}
 use Rattle.std.specs.Int.{bit_at}
+use mir.Val.{bool_byte}
 use Rattle.std.specs.List.{count_by}
 use Rattle.ts_bits.specs.Rank.{rank}
 use Rattle.ts_bits.specs.BitKinds.{kind_rank, IsPlaceOfKind}
-use Rattle.ts_bits.proofs.Ranks.{rank_more, rank-le, rank-mono, place_only}
+use Rattle.ts_bits.specs.Select.{IsPlaceOfOne, IsPlaceOfZero}
+use Rattle.std.specs.Option.{IfSome, IfNone, IsNone}
+use Rattle.ts_bits.proofs.Ranks.{rank_more, rank-le, rank-mono, rank_after_place, place_only}
+use Rattle.ts_bits.proofs.BitKinds.{kind_mono}
 use Rattle.ts_wavelet.specs.Sequence.{occurrences, IsPlaceOf}
 use Rattle.ts_wavelet.specs.Nodes.{lesser, among, digit_of, IsTree, IsNode, IsSpot, IsOffsetOf}
-use Rattle.ts_wavelet.proofs.Filters.{count_before, count_same, passing}
-use Rattle.ts_wavelet.proofs.Counts.{half, lesser_more, lesser_even, lesser-zero, among_split, among_more_yes, among_more_no, among_mono, among_all, node_within}
+use Rattle.ts_wavelet.proofs.Filters.{count_before, count_more, count_same, passing}
+use Rattle.ts_wavelet.proofs.Counts.{half, lesser_more, lesser_even, lesser-zero, among_split, among_more_yes, among_more_no, among_mono, among_all, among-zero, node_within}
 use Rattle.ts_wavelet.proofs.Trees.{same_digit}
 
 -- a place of a node is a bit of its level
@@ -224,10 +230,10 @@ zero_rises bits n p q is_p is_q h =
     omega (arith, is_p.before, is_q.before, zero, more, mono.1, le)
 
 -- the bits of a kind in a part, of which so many are zeros and so many ones
-kind_counted : (kind : Bool) (bits : List Bool) (from all zeros ones to : ℕ) → to ≡ from + all → all ≡ zeros + ones → rank bits to ≡ rank bits from + ones
-    → kind_rank kind bits to ≡ kind_rank kind bits from + cond kind ones zeros
-kind_counted true bits from all zeros ones to is split counted = counted
-kind_counted false bits from all zeros ones to is split counted = let le = rank-le bits from in omega arith
+kind_counted : (kind : Bool) (bits : List Bool) (from all none ones to : ℕ) → to ≡ from + all → all ≡ none + ones → rank bits to ≡ rank bits from + ones
+    → kind_rank kind bits to ≡ kind_rank kind bits from + cond kind ones none
+kind_counted true bits from all none ones to is split counted = counted
+kind_counted false bits from all none ones to is split counted = let le = rank-le bits from in omega arith
 
 -- the numbers of a part that have the digit
 kind_among : (kind : Bool) (xs : List ℕ) (r p j : ℕ) → digit_of kind ≡ bit_at p r
@@ -307,3 +313,171 @@ back_some width bits xs tree r l p n start end inner kind e node digit inner_is 
     (l * length xs + end) (omega (arith, node.ends)) (among_split xs r (p / 2 ^ suc r) (length xs)) counts.all
     ∙ ap (λ (k : ℕ). kind_rank kind bits (l * length xs + start) + k) (kind_among kind xs r p (length xs) digit) in
     omega (arith, all, more, mono, inner_is found.0 found.1)
+
+-- the way down begins with all numbers
+pub first_spot : (width : ℕ) (bits : List Bool) (xs : List ℕ) → IsTree width bits xs → (p j start end place : ℕ) → p < 2 ^ width → j ≤ length xs
+    → start ≡ 0 → end ≡ length xs → place ≡ j → IsSpot xs (width - 0) (p / 2 ^ (width - 0)) start end j place
+first_spot width bits xs tree p j start end place fits within start_is end_is place_is =
+    let s : width - 0 ≡ width = omega arith in
+    let none : p / 2 ^ width ≡ 0 = div-eq_of_lt fits in
+    rw (s, none, start_is, end_is, place_is) (spot_top width bits xs tree j within)
+
+-- the next digit of a number on its way down
+pub by_digit : (x s t : ℕ) → s ≡ suc t → x / 2 ^ t ≡ 2 * (x / 2 ^ s) + bit_at x t
+by_digit x s t e = let h = half x t in rw e (omega arith)
+
+-- and it fits
+pub number_fits : (x s t width : ℕ) → s ≡ suc t → x < 2 ^ width → width ≤ 64 → 2 * (x / 2 ^ s) + bit_at x t < 2 ^ 64
+number_fits x s t width e fits narrow =
+    omega (arith, by_digit x s t e, shr_le x t, fits, pow_mono {i = width} {j = 64} narrow)
+
+-- a wide number stands nowhere
+pub wide_none : (width : ℕ) (xs : List ℕ) (p j : ℕ) → ((k : ℕ) → get_or xs k 0 < 2 ^ width) → 2 ^ width ≤ p → j ≤ length xs → occurrences xs p j ≡ 0
+wide_none width xs p zero fits wide h = refl
+wide_none width xs p (suc j) fits wide h =
+    let ih = wide_none width xs p j fits wide (omega arith) in
+    let e : j + 1 ≡ suc j = omega arith in
+    let more = count_more (λ x. eqb x p) xs j 0 (omega arith) in
+    let low = fits j in
+    let none : digit_of (eqb (get_or xs j 0) p) ≡ 0 = ap digit_of (ne_eqb (get_or xs j 0) p (λ is. omega arith)) in
+    ap (occurrences xs p) (sym e) ∙ omega (arith, more, ih, none)
+
+-- behind a bit of a kind there is one more
+kind_more : (kind : Bool) (bits : List Bool) (n place : ℕ) → IsPlaceOfKind kind bits n place → kind_rank kind bits (place + 1) ≡ n + 1
+kind_more true bits n place is = rank_after_place bits n place (record { one = is.bit; before = is.before })
+kind_more false bits n place is =
+    let within = slice_get_within bits place false is.bit in
+    let zero : digit_of (get_or bits place false) ≡ 0 = ap digit_of (get_or_from_slice_get bits place false false is.bit) in
+    omega (arith, is.before, zero, rank_more bits place within, rank-le bits place)
+
+-- a place of a kind is not before places with no more of the kind before them
+pub kind_after : (kind : Bool) (bits : List Bool) (n from place : ℕ) → IsPlaceOfKind kind bits n place → kind_rank kind bits from ≤ n → from ≤ place
+kind_after kind bits n from place is low = elim (cases_lt place from) [
+  | inr after ↦ after
+  | inl before ↦
+      let mono = kind_mono kind bits (place + 1) from (omega arith) in
+      absurd (omega (arith, mono, low, kind_more kind bits n place is))
+]
+
+-- the number at a place, and its bit on the way down
+pub bit_of_number : (width : ℕ) (bits : List Bool) (xs : List ℕ) → IsTree width bits xs → (len s t l start end j place : ℕ) → length xs ≡ len → s ≡ suc t → l + s ≡ width
+    → IsSpot xs s (get_or xs j 0 / 2 ^ s) start end j place → j < length xs
+    → (l * len + place < length bits) × (digit_of (get_or bits (l * len + place) false) ≡ bit_at (get_or xs j 0) t)
+bit_of_number width bits xs tree len s t l start end j place long is e spot h =
+    let spot' = subst (λ (s : ℕ). IsSpot xs s (get_or xs j 0 / 2 ^ s) start end j place) is spot in
+    let found = spot_bit width bits xs tree t l (get_or xs j 0 / 2 ^ suc t) start end j place (omega arith) spot' h refl in
+    let same : l * length xs + place ≡ l * len + place = ap (λ (m : ℕ). l * m + place) long in
+    (omega (arith, found.0, same), ap (λ (k : ℕ). digit_of (get_or bits k false)) (sym same) ∙ found.1)
+
+-- at the end of the way down the offset is the count
+pub leaf_count : (xs : List ℕ) (s p start end j place : ℕ) → s ≡ 0 → IsSpot xs s (p / 2 ^ s) start end j place → place - start ≡ occurrences xs p j
+leaf_count xs s p start end j place e spot = leaf_is xs p start end j place (subst (λ (s : ℕ). IsSpot xs s (p / 2 ^ s) start end j place) e spot)
+
+pub leaf_node : (xs : List ℕ) (s p start end : ℕ) → s ≡ 0 → IsNode xs s (p / 2 ^ s) start end → end - start ≡ occurrences xs p (length xs)
+leaf_node xs s p start end e node =
+    let node' = subst (λ (s : ℕ). IsNode xs s (p / 2 ^ s) start end) e node in
+    omega (arith, node'.ends, among_leaf xs p (length xs))
+
+pub leaf_offset : (xs : List ℕ) (s p n : ℕ) → s ≡ 0 → IsOffsetOf xs s p n n
+leaf_offset xs s p n e j is = rw e (sym (among_leaf xs p j ∙ is.before))
+
+-- on the top level the offset is the place
+pub top_offset : (width : ℕ) (bits : List Bool) (xs : List ℕ) → IsTree width bits xs → (s p n offset : ℕ) → s ≡ width → p < 2 ^ width
+    → n < occurrences xs p (length xs) → IsOffsetOf xs s p n offset → IsPlaceOf xs p n offset
+top_offset width bits xs tree s p n offset e fits some is =
+    let found = find_place xs p n some in
+    let within = slice_get_within xs found.0 p found.1.there in
+    let none : p / 2 ^ width ≡ 0 = div-eq_of_lt fits in
+    let here : offset ≡ among xs width (p / 2 ^ width) found.0 = subst (λ (s : ℕ). IsOffsetOf xs s p n offset) e is found.0 found.1 in
+    let all : among xs width (p / 2 ^ width) found.0 ≡ found.0 = ap (λ (v : ℕ). among xs width v found.0) none ∙ among_all xs width found.0 tree.fits (omega arith) in
+    subst (λ (k : ℕ). IsPlaceOf xs p n k) (sym (here ∙ all)) found.1
+
+-- a bit that is converted to a number
+pub bool_byte-digit : (bit : Bool) → bool_byte bit ≡ digit_of bit
+bool_byte-digit true = refl
+bool_byte-digit false = refl
+
+-- a number with all its digits
+pub whole_number : (xs : List ℕ) (j s number : ℕ) → j < length xs → s ≡ 0 → number ≡ get_or xs j 0 / 2 ^ s → slice_get xs j ≡ Some number
+whole_number xs j s number h e is =
+    slice_get-get_or xs j 0 h ∙ ap (λ (x : ℕ). Some x) (sym (is ∙ ap (λ (s : ℕ). get_or xs j 0 / 2 ^ s) e ∙ div-one (get_or xs j 0)))
+
+-- a part ends within its level
+pub node_end : (xs : List ℕ) (s v start end : ℕ) → IsNode xs s v start end → end ≤ length xs
+node_end xs s v start end node = omega (arith, node.starts, node.ends, node_within xs s v (length xs) (omega arith))
+
+-- the part of the next level
+pub next_node : (xs : List ℕ) (s t p start end start' end' place' : ℕ) (digit : Bool) → s ≡ suc t → digit_of digit ≡ p / 2 ^ t % 2
+    → IsNode xs s (p / 2 ^ s) start end
+    → ((j : ℕ) → IsSpot xs s (p / 2 ^ s) start end j start → IsSpot xs t (2 * (p / 2 ^ s) + digit_of digit) start' end' j place')
+    → IsNode xs t (p / 2 ^ t) start' end'
+next_node xs s t p start end start' end' place' digit e is node step =
+    let spot : IsSpot xs s (p / 2 ^ s) start end 0 start = record { node = node; within = omega arith; reached = omega (arith, among-zero xs s (p / 2 ^ s)) } in
+    let v : 2 * (p / 2 ^ s) + digit_of digit ≡ p / 2 ^ t = omega (arith, by_digit p s t e, is) in
+    subst (λ (v : ℕ). IsNode xs t v start' end') v (step 0 spot).node
+
+-- `back_some` and `back_is`, with the level's length and number as the code has them
+pub select_some : (width : ℕ) (bits : List Bool) (xs : List ℕ) → IsTree width bits xs → (len s t l p n start end inner : ℕ) (kind : Bool)
+    → length xs ≡ len → s ≡ suc t → l + s ≡ width
+    → IsNode xs s (p / 2 ^ s) start end → digit_of kind ≡ p / 2 ^ t % 2
+    → IsOffsetOf xs t p n inner → n < occurrences xs p len
+    → kind_rank kind bits (l * len + start) + inner < kind_rank kind bits (l * len + end)
+select_some width bits xs tree len s t l p n start end inner kind long is e node digit inner_is some =
+    let node' = subst (λ (s : ℕ). IsNode xs s (p / 2 ^ s) start end) is node in
+    subst (λ (m : ℕ). kind_rank kind bits (l * m + start) + inner < kind_rank kind bits (l * m + end)) long
+    (back_some width bits xs tree t l p n start end inner kind (omega arith) node' digit inner_is (subst (λ (m : ℕ). n < occurrences xs p m) (sym long) some))
+
+pub select_back : (width : ℕ) (bits : List Bool) (xs : List ℕ) → IsTree width bits xs → (len s t l p n start end inner place : ℕ) (kind : Bool)
+    → length xs ≡ len → s ≡ suc t → l + s ≡ width
+    → IsNode xs s (p / 2 ^ s) start end → digit_of kind ≡ p / 2 ^ t % 2
+    → IsOffsetOf xs t p n inner → IsPlaceOfKind kind bits (kind_rank kind bits (l * len + start) + inner) (l * len + start + place)
+    → IsOffsetOf xs s p n place
+select_back width bits xs tree len s t l p n start end inner place kind long is e node digit inner_is found =
+    let node' = subst (λ (s : ℕ). IsNode xs s (p / 2 ^ s) start end) is node in
+    let found' = subst (λ (m : ℕ). IsPlaceOfKind kind bits (kind_rank kind bits (l * m + start) + inner) (l * m + start + place)) (sym long) found in
+    subst (λ (s : ℕ). IsOffsetOf xs s p n place) (sym is) (back_is width bits xs tree t l p n start end inner place kind (omega arith) node' digit inner_is found')
+
+-- the bit of a kind in a part, as the code finds it
+pub one_back : (kind : Bool) (bits : List Bool) (from inner before place : ℕ) → kind ≡ true → before ≡ rank bits from → IsPlaceOfOne bits (before + inner) place
+    → (from ≤ place) × IsPlaceOfKind kind bits (kind_rank kind bits from + inner) (from + (place - from))
+one_back kind bits from inner before place is counted found =
+    let here : IsPlaceOfKind true bits (kind_rank true bits from + inner) place = record { bit = found.one; before = omega (arith, found.before, counted) } in
+    let after = kind_after true bits (kind_rank true bits from + inner) from place here (omega arith) in
+    let same : place ≡ from + (place - from) = omega arith in
+    (after, subst (λ (kind : Bool). IsPlaceOfKind kind bits (kind_rank kind bits from + inner) (from + (place - from))) (sym is)
+    (subst (λ (k : ℕ). IsPlaceOfKind true bits (kind_rank true bits from + inner) k) same here))
+
+pub zero_back : (kind : Bool) (bits : List Bool) (from inner before place : ℕ) → kind ≡ false → before ≡ rank bits from → IsPlaceOfZero bits (from - before + inner) place
+    → (from ≤ place) × IsPlaceOfKind kind bits (kind_rank kind bits from + inner) (from + (place - from))
+zero_back kind bits from inner before place is counted found =
+    let here : IsPlaceOfKind false bits (kind_rank false bits from + inner) place = record { bit = found.zero; before = omega (arith, found.before, counted) } in
+    let after = kind_after false bits (kind_rank false bits from + inner) from place here (omega arith) in
+    let same : place ≡ from + (place - from) = omega arith in
+    (after, subst (λ (kind : Bool). IsPlaceOfKind kind bits (kind_rank kind bits from + inner) (from + (place - from))) (sym is)
+    (subst (λ (k : ℕ). IsPlaceOfKind false bits (kind_rank false bits from + inner) k) same here))
+
+-- what the top level's search says of all
+pub select_found : (width : ℕ) (bits : List Bool) (xs : List ℕ) → IsTree width bits xs → (len s p n : ℕ) (found : Option ℕ) → length xs ≡ len → s ≡ width → p < 2 ^ width
+    → IfSome found (λ _. n < occurrences xs p len) → IfSome found (IsOffsetOf xs s p n) → IfSome found (IsPlaceOf xs p n)
+select_found width bits xs tree len s p n None long e fits some is = tt
+select_found width bits xs tree len s p n (Some offset) long e fits some is =
+    top_offset width bits xs tree s p n offset e fits (subst (λ (m : ℕ). n < occurrences xs p m) (sym long) some) is
+
+-- what stands with n before it stands more often than n
+pub select_none : (xs : List ℕ) (p n len : ℕ) (found : Option ℕ) → length xs ≡ len → IfSome found (IsPlaceOf xs p n) → occurrences xs p len ≤ n → found ≡ None
+select_none xs p n len None long is few = refl
+select_none xs p n len (Some place) long is few = absurd (omega (arith, place_counts xs p n place is, ap (occurrences xs p) long))
+
+none_then : {P : Type 0} (found : Option ℕ) → IsNone found → IfNone found P → P
+none_then None is h = h
+none_then (Some x) is h = absurd (cc)
+
+none_from : (found : Option ℕ) → found ≡ None → IsNone found
+none_from found e = rw e refl
+
+-- nothing is found exactly where the number stands at most n times
+pub select_iff : (seen xs : List ℕ) (p n len : ℕ) (found : Option ℕ) → xs ≡ seen → length xs ≡ len → IfNone found (occurrences xs p len ≤ n) → IfSome found (IsPlaceOf xs p n)
+    → IsNone found ↔ (occurrences seen p (length seen) ≤ n)
+select_iff seen xs p n len found same long none some =
+    let counts : occurrences xs p len ≡ occurrences seen p (length seen) = ap (occurrences xs p) (sym long) ∙ ap (λ ys. occurrences ys p (length ys)) same in
+    (λ is. omega (arith, counts, none_then found is none), λ few. none_from found (select_none xs p n len found long some (omega (arith, counts))))

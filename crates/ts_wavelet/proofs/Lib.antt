@@ -3,3 +3,5 @@ pub mod Counts
 pub mod Orders
 pub mod Trees
 pub mod Descents
+pub mod Walks
+pub mod Says

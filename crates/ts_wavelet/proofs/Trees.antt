@@ -210,7 +210,7 @@ unfolding tops_in
 tops_none len bits j h = get_or-replicate len j 0 0 h
 
 -- a number with no digits from `width` on
-below_from : (x width : ℕ) → x / 2 ^ width ≡ 0 → x < 2 ^ width
+pub below_from : (x width : ℕ) → x / 2 ^ width ≡ 0 → x < 2 ^ width
 below_from x width none = omega (arith, shr_split x width, mod-lt x (pow_pos width), ap (λ (y : ℕ). y * 2 ^ width) none)
 
 -- bits of the right number are the levels of the sequence that they say

@@ -13,6 +13,7 @@ pub(crate) struct Levels<'a> {
     pub(crate) bits: BitView<'a>,
     pub(crate) width: u64,
     pub(crate) len: u64,
+    ghost len_fits: { len < 2 ^ 64 },
     ghost some: { 1 ≤ width },
     ghost narrow: { width ≤ 64 },
     ghost whole: { length bits ≡ width * len },
@@ -34,6 +35,7 @@ impl<'a> Levels<'a> {
         ensures bits { result.bits ≡ self.now.bits }
         ensures width { result.width ≡ self.now.width }
         ensures len { result.len ≡ self.now.len }
+        ensures same { tops_in result.len result.bits result.width ≡ tops_in self.now.len self.now.bits self.now.width }
     {
         Levels {
             bits: self.bits.copy(),
@@ -146,12 +148,11 @@ impl<'a> Levels<'a> {
         let from = l * self.len + start;
         let to = l * self.len + end;
         let before = self.bits.rank1(from);
-        let place = if digit {
-            self.bits.select1_in(from, to, before + inner)
+        if digit {
+            self.bits.select1_in(from, to, before + inner) - from
         } else {
-            self.bits.select0_in(from, to, from - before + inner)
-        };
-        place - from
+            self.bits.select0_in(from, to, from - before + inner) - from
+        }
     }
 
     /// Where within a part of level `l` the `p` stands with exactly `n` p's before it, or `None` where at

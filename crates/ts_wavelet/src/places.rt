@@ -1,43 +1,45 @@
 //! The places of a number, one after another.
 
-ghost use Rattle.std.specs.Prelude.{◌≡◌, ◌≤◌, length};
+ghost use Rattle.std.specs.Prelude.{◌≡◌, ◌≤◌};
 ghost use Rattle.std.specs.Iterator.{YieldsFirst, item_count};
+ghost use Rattle.ts_wavelet.specs.Nodes.{tops_in};
 ghost use Rattle.ts_wavelet.specs.Sequence.{places_from};
 
-use crate::view::WaveletView;
+use crate::levels::Levels;
 use std::marker::Model;
 
 /// Goes over the places of a number in a sequence, rising. It takes no memory.
 #[derive(Drop)]
 pub struct Places<'a> {
-    view: WaveletView<'a>,
+    levels: Levels<'a>,
     p: u64,
     from: u64,
     n: u64,
 }
 
 impl<'a> Model for Places<'a> {
-    ghost use Rattle.std.specs.Prelude.{◌≡◌, ◌≤◌, ℕ, List, length};
+    ghost use Rattle.std.specs.Prelude.{◌≡◌, ◌≤◌, ℕ, List};
+    ghost use Rattle.ts_wavelet.specs.Nodes.{tops_in};
     ghost use Rattle.ts_wavelet.specs.Sequence.{occurrences, places_from};
 
     ghost Value = { List ℕ };
 
-    ghost view = { λ w. places_from w.view w.p w.from };
+    ghost view = { λ w. places_from (tops_in w.levels.len w.levels.bits w.levels.width) w.p w.from };
 
     ghost invariant = { λ w. record {
-      within : w.from ≤ length w.view;
-      passed : w.n ≡ occurrences w.view w.p w.from;
+      within : w.from ≤ w.levels.len;
+      passed : w.n ≡ occurrences (tops_in w.levels.len w.levels.bits w.levels.width) w.p w.from;
     } };
 }
 
 impl<'a> Places<'a> {
     /// The places of `p` at or after place `from`.
-    pub(crate) fn new(view: WaveletView<'a>, p: u64, from: u64) -> Places<'a>
-        requires { from ≤ length view }
-        ensures { result ≡ places_from view.entry p from }
+    pub(crate) fn new(levels: Levels<'a>, p: u64, from: u64) -> Places<'a>
+        requires { from ≤ levels.len }
+        ensures { result ≡ places_from (tops_in levels.entry.len levels.entry.bits levels.entry.width) p from }
     {
-        let n = view.rank(p, from);
-        Places { view, p, from, n }
+        let n = levels.rank(p, from);
+        Places { levels, p, from, n }
     }
 }
 
@@ -49,7 +51,7 @@ impl<'a> Iterator for Places<'a> {
     ghost remaining = { item_count (λ places. places) };
 
     fn next(&mut self) -> Option<u64> {
-        let place = self.view.select(self.p, self.n)?;
+        let place = self.levels.select(self.p, self.n)?;
         self.from = place + 1;
         self.n += 1;
         Some(place)

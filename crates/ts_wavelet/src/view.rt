@@ -1,6 +1,6 @@
 //! A sequence of numbers, read in the bytes of its wavelet tree.
 
-ghost use Rattle.std.specs.Prelude.{◌≡◌, ℕ, List, ◌<◌, ◌≤◌, ◌↔◌, length, slice_get, Some, IsNone, IfNone, IfSome};
+ghost use Rattle.std.specs.Prelude.{◌≡◌, ℕ, List, ◌*◌, ◌<◌, ◌≤◌, ◌↔◌, length, slice_get, Some, IsTrue, IsNone, IfNone, IfSome};
 ghost use Rattle.ts_wavelet.specs.WaveletTree.{WaveletSays, SayNoSequence, SayOnly};
 ghost use Rattle.ts_wavelet.specs.Sequence.{occurrences, IsPlaceOf, places_from};
 ghost use Rattle.ts_wavelet.specs.Control.{IsControl, IsNoControl};
@@ -37,6 +37,16 @@ fn control_of(bytes: &[u8]) -> Option<(u64, &[u8])>
     }
 }
 
+/// Whether `count` is the product of the two.
+fn is_product(width: u64, len: u64, count: u64) -> bool
+    ensures { IsTrue result ↔ (width * len ≡ count) }
+{
+    match width.checked_mul(len) {
+        Some(product) => product == count,
+        None => false,
+    }
+}
+
 impl<'a> WaveletView<'a> {
     /// The sequence of this length that the bytes say, or `None` where they are the wavelet tree of none.
     pub fn open(bytes: &'a [u8], len: u64) -> Option<WaveletView<'a>>
@@ -47,7 +57,7 @@ impl<'a> WaveletView<'a> {
     {
         let (width, rest) = control_of(bytes)?;
         let bits = BitView::open(rest)?;
-        if width.checked_mul(len) != Some(bits.len()) {
+        if !is_product(width, len, bits.len()) {
             return None;
         }
         if width > 1 && bits.rank1(len) == 0 {
@@ -132,6 +142,6 @@ impl<'a> WaveletView<'a> {
         requires { from ≤ length self.now }
         ensures { result ≡ places_from self.now p from }
     {
-        Places::new(self.copy(), p, from)
+        Places::new(self.levels.copy(), p, from)
     }
 }

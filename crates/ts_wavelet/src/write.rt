@@ -1,9 +1,9 @@
 //! The bytes of a wavelet tree, appended to a buffer.
 
-ghost use Rattle.std.specs.Prelude.{◌≡◌, ℕ, List, ◌+◌, ◌-◌, ◌*◌, ◌^◌, ◌<◌, ◌≤◌, ◌++◌, All, Bool, Some, None, map, nat_eq, OnOk, OnErr, IsSomeAnd};
+ghost use Rattle.std.specs.Prelude.{◌≡◌, ℕ, List, ◌+◌, ◌-◌, ◌*◌, ◌^◌, ◌<◌, ◌≤◌, ◌++◌, All, Bool, Some, None, map, nat_eq, IfOk, OnOk, OnErr};
 ghost use Rattle.std.specs.Int.{bit_at};
 ghost use Rattle.ts_bits.specs.Extends.{Extends};
-ghost use Rattle.ts_wavelet.specs.WaveletTree.{ordered, IsWidth, Appended};
+ghost use Rattle.ts_wavelet.specs.WaveletTree.{ordered, tree_bits, IsWidth, Appended};
 
 use std::alloc::{AllocError, Global};
 use ts_bits::BitBuilder;
@@ -46,11 +46,15 @@ fn width_of(sequence: &[u64]) -> u64
 
 /// The bits of all levels.
 fn levels_of(alloc: Global, sequence: &[u64], width: u64) -> Result<BitBuilder, AllocError>
+    requires narrow { width ≤ 64 }
+    requires fits { All (λ x. x < 2 ^ width) sequence.now }
+    ensures { IfOk result (λ bits. bits ≡ Some (tree_bits width sequence.now)) }
 {
     let mut bits = BitBuilder::new(alloc);
     let mut order = Vec::new(alloc);
     order.extend_from_slice(sequence)?;
-    for shift in (0..width).rev() {
+    for l in 0..width {
+        let shift = width - 1 - l;
         push_level(&order, shift, &mut bits)?;
         order = part(alloc, &order, shift)?;
     }
@@ -60,8 +64,8 @@ fn levels_of(alloc: Global, sequence: &[u64], width: u64) -> Result<BitBuilder, 
 /// Pushes digit `shift` of each number.
 fn push_level(order: &[u64], shift: u64, bits: &mut BitBuilder) -> Result<(), AllocError>
     requires { shift < 64 }
-    ensures ok { OnOk result (IsSomeAnd bits.old (λ old.
-        bits.new ≡ Some (old ++ map (λ x. nat_eq (bit_at x shift) 1) order.now))) }
+    ensures ok { OnOk result ((old : List Bool) → bits.old ≡ Some old
+        → bits.new ≡ Some (old ++ map (λ x. nat_eq (bit_at x shift) 1) order.now)) }
 {
     for x in order {
         bits.push((x >> shift) & 1 == 1)?;
@@ -73,6 +77,8 @@ fn push_level(order: &[u64], shift: u64, bits: &mut BitBuilder) -> Result<(), Al
 /// above it, those with a zero come first. All keep their order otherwise.
 fn part(alloc: Global, order: &[u64], shift: u64) -> Result<Vec<u64>, AllocError>
     requires { shift < 64 }
+    ensures { IfOk result (λ parted. (sequence : List ℕ) (n : ℕ)
+        → order.now ≡ ordered sequence (shift + 1) n → parted.items ≡ ordered sequence shift (2 * n)) }
 {
     let mut parted = Vec::with_capacity(alloc, order.len())?;
     let mut ones = Vec::new(alloc);

@@ -1,6 +1,6 @@
 use Rattle.std.proofs.Common.{◌≡◌, ℕ, suc, ◌+◌, ◌-◌, ◌*◌, sym, ap, subst, ◌∙◌, arith}
 use Rattle.ts_bits.specs.Rank.{rank}
-use Rattle.ts_wavelet.specs.Nodes.{IsSpot}
+use Rattle.ts_wavelet.specs.Nodes.{digit_of, IsSpot}
 use Rattle.ts_wavelet.proofs.Descents.{level_fits, step_bounds, step_one, step_zero}
 use Rattle.ts_wavelet.proofs.levels.Levels.step.Goals as goal
 
@@ -66,11 +66,28 @@ overflow_sub-result c =
 
 pub returns-then-digit : goal.returns-then-digit
 returns-then-digit c = λ sequence top j tree len spot.
-    let r : ℕ = c.args.self.now.width - (c.args.l + 1) in
+    let t = c.args.self.now in
     let e : c.args.l + suc (c.args.self.now.width - (c.args.l + 1)) ≡ c.args.self.now.width = omega arith in
     let s : c.args.self.now.width - c.args.l ≡ suc (c.args.self.now.width - (c.args.l + 1)) = omega arith in
     let spot' = subst (λ (s : ℕ). IsSpot sequence s top c.args.spot.start c.args.spot.end j c.args.spot.place) s spot in
-    ?
+    let at_start = c.rank1-before.ensures ∙ ap (λ (m : ℕ). rank t.bits (c.args.l * m + c.args.spot.start)) (sym len) in
+    let at_end = c.rank1.ensures ∙ ap (λ (m : ℕ). rank t.bits (c.args.l * m + c.args.spot.end)) (sym len) in
+    let at_place = c.rank1-2.ensures ∙ ap (λ (m : ℕ). rank t.bits (c.args.l * m + c.args.spot.place)) (sym len) in
+    let done = step_one t.width t.bits sequence tree (c.args.self.now.width - (c.args.l + 1)) c.args.l top c.args.spot.start c.args.spot.end j c.args.spot.place
+    (c.rank1.result - c.rank1-before.result) (c.rank1-2.result - c.rank1-before.result) e spot' (omega (arith, at_start, at_end)) (omega (arith, at_start, at_place)) in
+    let v : 2 * top + 1 ≡ 2 * top + digit_of c.args.digit = omega (arith, ap digit_of c.if-digit.true) in
+    subst (λ (v : ℕ). IsSpot sequence (c.args.self.now.width - (c.args.l + 1)) v (c.args.spot.end - (c.rank1.result - c.rank1-before.result)) c.args.spot.end j (c.args.spot.end - (c.rank1.result - c.rank1-before.result) + (c.rank1-2.result - c.rank1-before.result))) v done
 
 pub returns-else-digit : goal.returns-else-digit
-returns-else-digit c = λ sequence top j tree len spot. ?
+returns-else-digit c = λ sequence top j tree len spot.
+    let t = c.args.self.now in
+    let e : c.args.l + suc (c.args.self.now.width - (c.args.l + 1)) ≡ c.args.self.now.width = omega arith in
+    let s : c.args.self.now.width - c.args.l ≡ suc (c.args.self.now.width - (c.args.l + 1)) = omega arith in
+    let spot' = subst (λ (s : ℕ). IsSpot sequence s top c.args.spot.start c.args.spot.end j c.args.spot.place) s spot in
+    let at_start = c.rank1-before.ensures ∙ ap (λ (m : ℕ). rank t.bits (c.args.l * m + c.args.spot.start)) (sym len) in
+    let at_end = c.rank1.ensures ∙ ap (λ (m : ℕ). rank t.bits (c.args.l * m + c.args.spot.end)) (sym len) in
+    let at_place = c.rank1-2.ensures ∙ ap (λ (m : ℕ). rank t.bits (c.args.l * m + c.args.spot.place)) (sym len) in
+    let done = step_zero t.width t.bits sequence tree (c.args.self.now.width - (c.args.l + 1)) c.args.l top c.args.spot.start c.args.spot.end j c.args.spot.place
+    (c.rank1.result - c.rank1-before.result) (c.rank1-2.result - c.rank1-before.result) e spot' (omega (arith, at_start, at_end)) (omega (arith, at_start, at_place)) in
+    let v : 2 * top ≡ 2 * top + digit_of c.args.digit = omega (arith, ap digit_of c.if-digit.false) in
+    subst (λ (v : ℕ). IsSpot sequence (c.args.self.now.width - (c.args.l + 1)) v c.args.spot.start (c.args.spot.end - (c.rank1.result - c.rank1-before.result)) j (c.args.spot.place - (c.rank1-2.result - c.rank1-before.result))) v done
