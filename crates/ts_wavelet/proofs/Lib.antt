@@ -5,3 +5,7 @@ pub mod Trees
 pub mod Descents
 pub mod Walks
 pub mod Says
+pub mod Widths
+pub mod Pushes
+pub mod Parting
+pub mod Written
