@@ -1,13 +1,13 @@
 -- How many numbers there are with given top digits, and how the next digit parts them.
-use Rattle.std.proofs.Common.{◌≡◌, ℕ, zero, suc, ◌+◌, ◌-◌, ◌*◌, ◌/◌, ◌%◌, ◌^◌, ◌<◌, ◌≤◌, Bool, true, false, cond, eqb, ltb, List, [], ◌∷◌, length, take, get_or, refl, sym, ap, ◌∙◌, arith, inl, inr}
-use Rattle.std.proofs.lemmas.Bool.{cases_lt, cases_eq, eqb-true, eq-eqb, ne_eqb, lt-ltb, le-ltb}
+use Rattle.std.proofs.Common.{◌≡◌, ℕ, zero, suc, ◌+◌, ◌*◌, ◌/◌, ◌^◌, ◌<◌, ◌≤◌, eqb, ltb, List, [], ◌∷◌, length, take, get_or, refl, sym, ap, ◌∙◌, arith, inl, inr}
+use Rattle.std.proofs.lemmas.Bool.{cases_lt, eq-eqb, ne_eqb, le-ltb}
 use Rattle.std.proofs.lemmas.Bool.Decides.{nat_tests}
 use Rattle.std.proofs.lemmas.List.{take_all}
 use Rattle.std.proofs.lemmas.List.Sums.{count_by-le-length}
 use Rattle.std.proofs.Math.Nat.{div-div-eq-div-mul, pow-suc, div-eq_of_lt}
 use Rattle.std.specs.List.{count_by}
 use Rattle.ts_wavelet.specs.Nodes.{lesser, among, digit_of}
-use Rattle.ts_wavelet.proofs.Filters.{count-cons, count_sum, count_same, count_more, count_before}
+use Rattle.ts_wavelet.proofs.Filters.{count-cons, count_sum, count_same, count_more}
 
 -- a digit more is shifted out
 pub half : (x r : ℕ) → x / 2 ^ suc r ≡ x / 2 ^ r / 2

@@ -205,11 +205,13 @@ step_bounds bits base start end place after before =
 pub find_place : (xs : List ℕ) (p n : ℕ) → n < occurrences xs p (length xs) → (j : ℕ) × IsPlaceOf xs p n j
 find_place xs p n h =
     let whole = take_all (length xs) xs (omega arith) in
-    let found = passing (λ x. eqb x p) xs 0 n (omega (arith, ap (count_by (λ x. eqb x p)) whole)) in
-    (found.place, record {
-      there = slice_get-get_or xs found.place 0 found.within ∙ ap (λ (x : ℕ). Some x) (eqb-true _ p found.passes);
-      before = found.before;
-    })
+    let found = passing (λ x. eqb x p) xs 0 n (omega (arith, ap (count_by (λ x. eqb x p)) whole)) in (
+      found.place,
+      record {
+        there = slice_get-get_or xs found.place 0 found.within ∙ ap (λ (x : ℕ). Some x) (eqb-true _ p found.passes);
+        before = found.before;
+      },
+    )
 
 -- and stands no less often
 pub place_counts : (xs : List ℕ) (p n j : ℕ) → IsPlaceOf xs p n j → n < occurrences xs p (length xs)
@@ -443,18 +445,22 @@ pub one_back : (kind : Bool) (bits : List Bool) (from inner before place : ℕ) 
 one_back kind bits from inner before place is counted found =
     let here : IsPlaceOfKind true bits (kind_rank true bits from + inner) place = record { bit = found.one; before = omega (arith, found.before, counted) } in
     let after = kind_after true bits (kind_rank true bits from + inner) from place here (omega arith) in
-    let same : place ≡ from + (place - from) = omega arith in
-    (after, subst (λ (kind : Bool). IsPlaceOfKind kind bits (kind_rank kind bits from + inner) (from + (place - from))) (sym is)
-    (subst (λ (k : ℕ). IsPlaceOfKind true bits (kind_rank true bits from + inner) k) same here))
+    let same : place ≡ from + (place - from) = omega arith in (
+      after,
+      subst (λ (kind : Bool). IsPlaceOfKind kind bits (kind_rank kind bits from + inner) (from + (place - from))) (sym is)
+          (subst (λ (k : ℕ). IsPlaceOfKind true bits (kind_rank true bits from + inner) k) same here),
+    )
 
 pub zero_back : (kind : Bool) (bits : List Bool) (from inner before place : ℕ) → kind ≡ false → before ≡ rank bits from → IsPlaceOfZero bits (from - before + inner) place
     → (from ≤ place) × IsPlaceOfKind kind bits (kind_rank kind bits from + inner) (from + (place - from))
 zero_back kind bits from inner before place is counted found =
     let here : IsPlaceOfKind false bits (kind_rank false bits from + inner) place = record { bit = found.zero; before = omega (arith, found.before, counted) } in
     let after = kind_after false bits (kind_rank false bits from + inner) from place here (omega arith) in
-    let same : place ≡ from + (place - from) = omega arith in
-    (after, subst (λ (kind : Bool). IsPlaceOfKind kind bits (kind_rank kind bits from + inner) (from + (place - from))) (sym is)
-    (subst (λ (k : ℕ). IsPlaceOfKind false bits (kind_rank false bits from + inner) k) same here))
+    let same : place ≡ from + (place - from) = omega arith in (
+      after,
+      subst (λ (kind : Bool). IsPlaceOfKind kind bits (kind_rank kind bits from + inner) (from + (place - from))) (sym is)
+          (subst (λ (k : ℕ). IsPlaceOfKind false bits (kind_rank false bits from + inner) k) same here),
+    )
 
 -- what the top level's search says of all
 pub select_found : (width : ℕ) (bits : List Bool) (xs : List ℕ) → IsTree width bits xs → (len s p n : ℕ) (found : Option ℕ) → length xs ≡ len → s ≡ width → p < 2 ^ width

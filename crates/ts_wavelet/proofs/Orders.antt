@@ -1,11 +1,11 @@
 -- Where each number stands in the order of top digits.
-use Rattle.std.proofs.Common.{◌≡◌, ℕ, zero, suc, ◌+◌, ◌-◌, ◌*◌, ◌/◌, ◌^◌, ◌<◌, ◌≤◌, Bool, true, false, cond, eqb, ltb, List, [], ◌∷◌, ◌++◌, length, take, get_or, refl, sym, ap, subst, ◌∙◌, arith, inl, inr}
+use Rattle.std.proofs.Common.{◌≡◌, ℕ, zero, suc, ◌+◌, ◌/◌, ◌^◌, ◌<◌, ◌≤◌, true, eqb, ltb, List, [], ◌∷◌, ◌++◌, length, take, get_or, refl, sym, ap, subst, ◌∙◌, arith}
 use Rattle.std.proofs.lemmas.Bool.{eqb-true, eq-eqb, lt-ltb}
 use Rattle.std.proofs.lemmas.List.{length-append, append-nil, take_all}
 use Rattle.std.proofs.lemmas.List.Concat.{get_or-flat_map, flat_map-append}
 use Rattle.std.proofs.lemmas.List.FromFn.{length-range_with_len, get_or-range_with_len}
 use Rattle.std.proofs.lemmas.List.Sums.{length-filter}
-use Rattle.std.specs.List.{count_by, filter, flat_map, range_with_len}
+use Rattle.std.specs.List.{count_by, flat_map, range_with_len}
 use Rattle.ts_wavelet.specs.WaveletTree.{with_top, ordered}
 use Rattle.ts_wavelet.specs.Nodes.{lesser, among, digit_of}
 use Rattle.ts_wavelet.proofs.Filters.{filter_place, count-cons, count_before, passing, piece_of, take-range, range_more}

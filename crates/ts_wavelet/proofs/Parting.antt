@@ -1,6 +1,6 @@
 -- The numbers of a level parted by the next digit, as they are met.
-use Rattle.std.proofs.Common.{◌≡◌, ℕ, zero, suc, ◌+◌, ◌*◌, ◌/◌, ◌%◌, ◌^◌, ◌<◌, ◌≤◌, Bool, true, false, ◌&&◌, cond, eqb, ◌⊎◌, List, [], ◌∷◌, ◌++◌, length, get_or, refl, sym, ap, subst, ◌∙◌, arith, inl, inr}
-use Rattle.std.proofs.lemmas.Bool.{cases_eq, cases_Bool, eqb-true, eqb-false, eq-eqb, ne_eqb, cond-true, cond-false}
+use Rattle.std.proofs.Common.{◌≡◌, ℕ, zero, suc, ◌+◌, ◌*◌, ◌/◌, ◌%◌, ◌^◌, ◌<◌, Bool, true, false, ◌&&◌, cond, eqb, ◌⊎◌, List, [], ◌∷◌, ◌++◌, refl, sym, ap, ◌∙◌, arith, inl, inr}
+use Rattle.std.proofs.lemmas.Bool.{cases_eq, cases_Bool, eqb-true, eq-eqb, ne_eqb, cond-true, cond-false}
 use Rattle.std.proofs.lemmas.Bool.Decides.{nat_tests}
 use Rattle.std.proofs.lemmas.List.{append_assoc, append-nil}
 use Rattle.std.proofs.lemmas.List.Concat.{flat_map-append}
@@ -76,7 +76,7 @@ halves shift sequence v = zeros_of shift (with_top sequence (suc shift) v) ++ on
 node : (shift a last : ℕ) (ones xs rest done : List ℕ) → All (λ x. x / 2 ^ suc shift ≡ a) xs → (last < a) ⊎ (ones ≡ [])
     → ((last : ℕ) (ones : List ℕ) → (last < a + 1) ⊎ (ones ≡ []) → parted shift last ones rest ≡ ones ++ done)
     → parted shift last ones (xs ++ rest) ≡ ones ++ ((zeros_of shift xs ++ ones_of shift xs) ++ done)
-node shift a last ones [] rest done all before later = later last ones (elim before [ | inl less ↦ inl (omega arith) | inr none ↦ inr none ])
+node shift a last ones [] rest done all before later = later last ones (elim before [ inl less ↦ inl (omega arith) | inr none ↦ inr none ])
 node shift a last ones (x ∷ xs) rest done all before later =
     let top : x / 2 ^ suc shift ≡ a = all 0 0 (omega arith) in
     let whole : parted shift a [] ((x ∷ xs) ++ rest) ≡ (zeros_of shift (x ∷ xs) ++ ones_of shift (x ∷ xs)) ++ done =

@@ -1,9 +1,9 @@
 -- What bytes say of a tree's width, bits and numbers.
-use Rattle.std.proofs.Common.{◌≡◌, ℕ, zero, suc, ◌+◌, ◌-◌, ◌*◌, ◌/◌, ◌^◌, ◌<◌, ◌≤◌, Bool, true, false, eqb, Option, Some, None, replicate, List, [], ◌∷◌, ◌++◌, length, drop, get_or, refl, sym, ap, subst, ◌∙◌, arith, inl, inr}
-use Rattle.std.proofs.lemmas.Bool.{cases_lt, cases_eq, eq-eqb, ne_eqb}
+use Rattle.std.proofs.Common.{◌≡◌, ℕ, zero, suc, ◌+◌, ◌-◌, ◌*◌, ◌/◌, ◌^◌, ◌<◌, ◌≤◌, Bool, eqb, Option, Some, None, replicate, List, ◌∷◌, ◌++◌, length, drop, get_or, refl, sym, ap, subst, ◌∙◌, arith, inl, inr}
+use Rattle.std.proofs.lemmas.Bool.{cases_lt, cases_eq, ne_eqb}
 use Rattle.std.proofs.lemmas.List.{get_or_past, get_or_default}
-use Rattle.std.proofs.lemmas.Nat.{pow_pos, shr_split}
-use Rattle.std.proofs.Math.Nat.{pow-suc, mod-lt, div-eq_of_lt, div-lt_iff_lt-mul}
+use Rattle.std.proofs.lemmas.Nat.{pow_pos}
+use Rattle.std.proofs.Math.Nat.{pow-suc, div-eq_of_lt, div-lt_iff_lt-mul}
 use Rattle.std.specs.List.{All}
 use Rattle.std.specs.Option.{IfNone}
 use Rattle.ts_bits.specs.BitArray.{bit_array_of, BitsSay}
@@ -15,7 +15,7 @@ use Rattle.ts_wavelet.specs.Sequence.{occurrences}
 use Rattle.ts_wavelet.specs.WaveletTree.{tree_bits, wavelet_of, IsWidth, WaveletSays}
 use Rattle.ts_wavelet.specs.Nodes.{digit_of, lesser, among, tops_in, IsTree}
 use Rattle.ts_wavelet.proofs.Filters.{count_more}
-use Rattle.ts_wavelet.proofs.Counts.{lesser-zero, among_all, among_more, among_more_no, among_more_yes, among_mono}
+use Rattle.ts_wavelet.proofs.Counts.{lesser-zero, among_all, among_more_no, among_more_yes, among_mono}
 use Rattle.ts_wavelet.proofs.Trees.{tree_is, tree_only, length-tree, length-tops, sequence_is, tree_of_bits, below_from}
 use Rattle.ts_wavelet.proofs.Descents.{node_ones, among_leaf}
 

@@ -1,7 +1,7 @@
 -- The levels' bits of a sequence, and the sequence that levels' bits say.
-use Rattle.std.proofs.Common.{◌≡◌, ℕ, zero, suc, ◌+◌, ◌-◌, ◌*◌, ◌/◌, ◌%◌, ◌^◌, ◌<◌, ◌≤◌, Bool, true, false, cond, eqb, ltb, List, [], ◌∷◌, ◌++◌, length, take, map, replicate, get_or, refl, sym, ap, subst, ◌∙◌, arith, inl, inr}
+use Rattle.std.proofs.Common.{◌≡◌, ℕ, zero, suc, ◌+◌, ◌-◌, ◌*◌, ◌/◌, ◌%◌, ◌^◌, ◌<◌, ◌≤◌, Bool, true, false, eqb, ltb, List, [], ◌∷◌, ◌++◌, length, take, map, replicate, get_or, refl, sym, ap, subst, ◌∙◌, arith, inl, inr}
 use Rattle.std.proofs.lemmas.Bool.{cases_lt}
-use Rattle.std.proofs.lemmas.List.{length-append, append-nil, take_all, length-map, get_or-map, take-map, same_lists, get_or_default, get_or_past, length-replicate, get_or-replicate}
+use Rattle.std.proofs.lemmas.List.{length-append, append-nil, length-map, get_or-map, take-map, same_lists, get_or_default, get_or_past, length-replicate, get_or-replicate}
 use Rattle.std.proofs.lemmas.List.Concat.{get_or-flat_map, flat_map-append}
 use Rattle.std.proofs.lemmas.List.FromFn.{length-range_with_len, get_or-range_with_len, length-map-range_with_len, get_or-map-range_with_len}
 use Rattle.std.proofs.lemmas.Nat.{pow-add, pow_pos, shr_split, div-add-mod'}
@@ -12,7 +12,7 @@ use Rattle.std.specs.List.{count_by, flat_map, range_with_len}
 use Rattle.ts_wavelet.specs.WaveletTree.{ordered, level_bits, tree_bits}
 use Rattle.ts_wavelet.specs.Nodes.{lesser, among, order_place, digit_of, tops_in, IsTree}
 use Rattle.ts_wavelet.proofs.Filters.{count-map, take-range, range_more}
-use Rattle.ts_wavelet.proofs.Counts.{half, node_within, among_mono, among_more_yes}
+use Rattle.ts_wavelet.proofs.Counts.{half, node_within, among_more_yes}
 use Rattle.ts_wavelet.proofs.Orders.{ordered_at, ordered_from, ordered_all}
 
 -- the numbers fit

@@ -1,10 +1,10 @@
 -- The places of a number, one after another.
-use Rattle.std.proofs.Common.{◌≡◌, ℕ, zero, suc, ◌+◌, ◌-◌, ◌/◌, ◌^◌, ◌<◌, ◌≤◌, Bool, true, false, eqb, Option, Some, None, List, [], ◌∷◌, length, get_or, refl, sym, ap, ◌∙◌, arith, inl, inr}
-use Rattle.std.proofs.lemmas.Bool.{cases_lt, cases_Bool, eq-eqb, ne_eqb, cond-true, cond-false}
+use Rattle.std.proofs.Common.{◌≡◌, ℕ, zero, suc, ◌+◌, ◌-◌, ◌/◌, ◌^◌, ◌<◌, ◌≤◌, true, false, eqb, List, [], ◌∷◌, length, get_or, ap, ◌∙◌, arith, inl, inr}
+use Rattle.std.proofs.lemmas.Bool.{cases_lt, cases_Bool, eq-eqb, cond-true, cond-false}
 use Rattle.std.proofs.lemmas.Option.{slice_get_within, get_or_from_slice_get}
 use Rattle.std.specs.List.{filter, range_with_len}
 use Rattle.ts_wavelet.specs.Sequence.{occurrences, IsPlaceOf, places_from}
-use Rattle.ts_wavelet.specs.Nodes.{digit_of, among}
+use Rattle.ts_wavelet.specs.Nodes.{digit_of}
 use Rattle.ts_wavelet.proofs.Filters.{count_more}
 use Rattle.ts_wavelet.proofs.Counts.{among_mono}
 use Rattle.ts_wavelet.proofs.Descents.{among_leaf}

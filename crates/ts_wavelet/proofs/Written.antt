@@ -1,5 +1,5 @@
 -- The levels of a tree, written one after another, and its bytes.
-use Rattle.std.proofs.Common.{◌≡◌, ℕ, zero, suc, ◌+◌, ◌-◌, ◌*◌, ◌/◌, ◌^◌, ◌<◌, ◌≤◌, Bool, true, false, eqb, Option, Some, None, Result, Ok, Err, replicate, List, [], ◌∷◌, ◌++◌, length, map, get_or, refl, sym, ap, subst, ◌∙◌, arith}
+use Rattle.std.proofs.Common.{◌≡◌, ℕ, suc, ◌+◌, ◌-◌, ◌*◌, ◌/◌, ◌^◌, ◌<◌, ◌≤◌, Bool, true, eqb, Option, Some, Result, Ok, Err, replicate, List, [], ◌∷◌, ◌++◌, map, get_or, refl, sym, ap, subst, ◌∙◌, arith}
 use Rattle.std.proofs.lemmas.Bool.{eq-eqb, cond-true}
 use Rattle.std.proofs.lemmas.List.{append_assoc, append-nil}
 use Rattle.std.proofs.lemmas.List.Concat.{flat_map-append}
@@ -9,7 +9,7 @@ use Rattle.std.specs.List.{All, filter, flat_map, range_with_len}
 use Rattle.std.specs.Option.{IsSomeAnd}
 use Rattle.std.specs.Result.{OnOk}
 use Rattle.ts_bits.specs.BitArray.{bit_array_of, BitsSay}
-use Rattle.ts_wavelet.specs.WaveletTree.{with_top, ordered, level_bits, tree_bits, wavelet_of, IsWidth, WaveletSays, Appended}
+use Rattle.ts_wavelet.specs.WaveletTree.{with_top, ordered, level_bits, tree_bits, wavelet_of, IsWidth, Appended}
 use Rattle.ts_wavelet.proofs.Filters.{range_more}
 use Rattle.ts_wavelet.proofs.Trees.{length-tree}
 use Rattle.ts_wavelet.proofs.Says.{fits_all}

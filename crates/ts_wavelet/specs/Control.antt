@@ -1,5 +1,5 @@
 -- The eight bytes before a tree's bits: the width, and seven zeros.
-use Rattle.std.specs.Prelude.{◌≡◌, ◌≢◌, ℕ, ◌≤◌, List, ◌∷◌, ◌++◌, replicate}
+use Rattle.std.specs.Prelude.{◌≡◌, ℕ, ◌≤◌, List, ◌∷◌, ◌++◌, replicate}
 
 pub record IsControl (bytes : List ℕ) (width : ℕ) (rest : List ℕ) : Type 0 where
   pub some : 1 ≤ width

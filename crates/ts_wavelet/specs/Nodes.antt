@@ -1,5 +1,5 @@
 -- The nodes of a tree: the numbers that agree in their top digits stand side by side on a level, and their bits part them on the next.
-use Rattle.std.specs.Prelude.{◌≡◌, ℕ, zero, suc, ◌+◌, ◌-◌, ◌*◌, ◌/◌, ◌%◌, ◌^◌, ◌<◌, ◌≤◌, nat_eq, nat_lt, Bool, true, false, if◌then◌else◌, List, length, take, map, replicate, slice_index, slice_index_or, All}
+use Rattle.std.specs.Prelude.{◌≡◌, ℕ, zero, suc, ◌+◌, ◌*◌, ◌/◌, ◌^◌, ◌<◌, ◌≤◌, nat_eq, nat_lt, Bool, false, if◌then◌else◌, List, length, take, map, replicate, slice_index, slice_index_or}
 use Rattle.std.specs.List.{count_by, range_with_len}
 use Rattle.std.specs.Int.{bit_at}
 use Rattle.ts_wavelet.specs.Sequence.{IsPlaceOf}
@@ -26,7 +26,7 @@ unfoldable pub tops_in : ℕ → List Bool → ℕ → List ℕ
 tops_in len bits zero = replicate len 0
 tops_in len bits (suc l) =
     map (λ j. 2 * slice_index (tops_in len bits l) j
-        + digit_of (slice_index_or bits (l * len + order_place (tops_in len bits l) j) false)) (range_with_len 0 len)
+    + digit_of (slice_index_or bits (l * len + order_place (tops_in len bits l) j) false)) (range_with_len 0 len)
 
 -- the levels' bits are those of the sequence: number j's bit stands where j stands in the order of the top digits
 pub record IsTree (width : ℕ) (bits : List Bool) (sequence : List ℕ) : Type 0 where
@@ -34,7 +34,7 @@ pub record IsTree (width : ℕ) (bits : List Bool) (sequence : List ℕ) : Type 
   pub fits : (j : ℕ) → slice_index sequence j < 2 ^ width
   pub stands : (r l j : ℕ) → l + suc r ≡ width → j < length sequence
       → digit_of (slice_index_or bits (l * length sequence + (lesser sequence (suc r) (slice_index sequence j / 2 ^ suc r) + among sequence (suc r) (slice_index sequence j / 2 ^ suc r) j)) false)
-          ≡ bit_at (slice_index sequence j) r
+      ≡ bit_at (slice_index sequence j) r
 
 -- the numbers whose digits from `shift` on make `top` stand from `start` up to `end` on their level
 pub record IsNode (sequence : List ℕ) (shift top start end : ℕ) : Type 0 where

@@ -167,11 +167,7 @@ impl<'a> Levels<'a> {
             (IsOffsetOf (tops_in self.now.len self.now.bits self.now.width) (self.now.width - l) p n) }
     {
         if l == self.width {
-            return if n < end - start {
-                Some(n)
-            } else {
-                None
-            };
+            return if n < end - start { Some(n) } else { None };
         }
         let digit = self.digit(p, l);
         let next = self.step(

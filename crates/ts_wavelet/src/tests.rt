@@ -1,6 +1,6 @@
 //! The format's worked bytes, refused bytes, and longer sequences.
 
-use crate::{write_wavelet, WaveletView};
+use crate::{WaveletView, write_wavelet};
 use std::alloc::{AllocError, Global};
 use std::test::Fail;
 
@@ -33,8 +33,16 @@ fn reads_three_numbers(rt: HostRuntime) {
 }
 
 #[test]
+fn reads_checked_bytes(rt: HostRuntime) {
+    let view = WaveletView::open(&THREE, 3).expect(&rt, "three numbers");
+    let again = WaveletView::of_checked(&THREE, 3).copy();
+    assert_eq!(rt; again.len(), view.len());
+    assert_eq!(rt; again.at(1), 2);
+}
+
+#[test]
 fn goes_over_places(rt: HostRuntime) {
-    let view = WaveletView::of_checked(&THREE, 3).copy();
+    let view = WaveletView::open(&THREE, 3).expect(&rt, "three numbers");
     let mut all = view.places(1);
     assert_eq!(rt; all.next(), Some(0));
     assert_eq!(rt; all.next(), Some(2));
@@ -53,10 +61,16 @@ fn refuses_other_bytes(rt: HostRuntime) {
     assert!(rt; WaveletView::open(&wide, 3).is_none(), "too wide");
     let mut filled = THREE;
     filled[7] = 1;
-    assert!(rt; WaveletView::open(&filled, 3).is_none(), "a byte behind the width");
+    assert!(rt;
+        WaveletView::open(&filled, 3).is_none(),
+        "a byte behind the width"
+    );
     let mut spare = THREE;
     spare[16] = 0x1c;
-    assert!(rt; WaveletView::open(&spare, 3).is_none(), "no number needs the width, or a 0");
+    assert!(rt;
+        WaveletView::open(&spare, 3).is_none(),
+        "no number needs the width, or a 0"
+    );
     let mut zero = THREE;
     zero[16] = 0x48;
     assert!(rt; WaveletView::open(&zero, 3).is_none(), "a number 0");

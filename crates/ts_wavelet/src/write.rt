@@ -10,11 +10,7 @@ use ts_bits::BitBuilder;
 
 /// Appends the wavelet tree of a sequence, whose numbers are at least 1. After want of memory the buffer
 /// keeps what it held, and may hold more behind it.
-pub fn write_wavelet(
-    alloc: Global,
-    sequence: &[u64],
-    into: &mut Vec<u8>,
-) -> Result<(), AllocError>
+pub fn write_wavelet(alloc: Global, sequence: &[u64], into: &mut Vec<u8>) -> Result<(), AllocError>
     requires { All (λ x. 1 ≤ x) sequence.now }
     ensures ok { OnOk result (Appended into.old.items into.new.items sequence.now) }
     ensures err { OnErr result (Extends into.old.items into.new.items) }

@@ -1,4 +1,4 @@
-use Rattle.std.proofs.Common.{◌≡◌, ◌-◌, ◌++◌, refl, sym, ap, ◌∙◌, arith}
+use Rattle.std.proofs.Common.{◌-◌, ◌++◌, refl, ap, ◌∙◌, arith}
 use Rattle.ts_wavelet.proofs.Written.{first_order, next_order, next_level, all_levels}
 use Rattle.ts_wavelet.proofs.write.levels_of.Goals as goal
 

@@ -1,5 +1,5 @@
-use Rattle.std.proofs.Common.{◌<◌, ◌^◌, arith}
-use Rattle.ts_wavelet.proofs.Widths.{IsGreatest, greatest_none, greatest_takes, greatest_keeps, greatest_fits, width_zero, width_is}
+use Rattle.std.proofs.Common.{arith}
+use Rattle.ts_wavelet.proofs.Widths.{greatest_none, greatest_takes, greatest_keeps, greatest_fits, width_zero, width_is}
 use Rattle.ts_wavelet.proofs.write.width_of.Goals as goal
 use Rattle.ts_wavelet.proofs.write.width_of.Goals.{then-x-greatest, else-x-greatest}
 

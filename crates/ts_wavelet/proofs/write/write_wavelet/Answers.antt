@@ -1,4 +1,4 @@
-use Rattle.std.proofs.Common.{◌≡◌, ℕ, ◌%◌, ◌∷◌, [], ◌++◌, List, ap, sym, ◌∙◌, arith}
+use Rattle.std.proofs.Common.{◌≡◌, ◌%◌, arith}
 use Rattle.ts_wavelet.proofs.Written.{appended, on_ok_both}
 use Rattle.ts_wavelet.proofs.write.write_wavelet.Goals as goal
 

@@ -1,10 +1,7 @@
-use Rattle.std.proofs.Common.{◌≡◌, ℕ, suc, ◌+◌, ◌-◌, ◌*◌, ◌/◌, ◌%◌, ◌^◌, ◌<◌, sym, ap, subst, ◌∙◌, arith}
-use Rattle.std.specs.Int.{bit_at}
-use Rattle.ts_bits.specs.BitKinds.{kind_rank, IsPlaceOfKind}
-use Rattle.ts_wavelet.specs.Nodes.{tops_in, digit_of, among, IsNode, IsSpot, IsOffsetOf}
+use Rattle.std.proofs.Common.{◌+◌, ◌-◌, ◌/◌, ◌^◌, ap, arith}
+use Rattle.ts_wavelet.specs.Nodes.{tops_in, IsNode}
 use Rattle.ts_wavelet.specs.Sequence.{occurrences}
 use Rattle.ts_wavelet.proofs.Trees.{tree_of_bits, length-tops}
-use Rattle.ts_wavelet.proofs.Counts.{node_within}
 use Rattle.ts_wavelet.proofs.Descents.{leaf_node, node_end, next_node, select_back, select_some}
 use Rattle.ts_wavelet.proofs.levels.Levels.+select_from.Goals as goal
 

@@ -1,6 +1,6 @@
-use Rattle.std.proofs.Common.{◌≡◌, ◌+◌, ◌≤◌, [], ◌∷◌, length, sym, ap, ◌∙◌, arith, rules}
+use Rattle.std.proofs.Common.{◌≡◌, [], sym, ap, ◌∙◌, arith, rules}
 use Rattle.ts_wavelet.specs.Nodes.{tops_in}
-use Rattle.ts_wavelet.specs.Sequence.{occurrences, places_from}
+use Rattle.ts_wavelet.specs.Sequence.{occurrences}
 use Rattle.ts_wavelet.proofs.Trees.{length-tops}
 use Rattle.ts_wavelet.proofs.Walks.{next_is, places_next, places_end}
 use Rattle.ts_wavelet.proofs.places.PlacesIterator.next.Goals as goal

@@ -1,6 +1,5 @@
 use Rattle.std.proofs.Common.{◌≡◌, ℕ, ◌*◌, length, sym, ap, subst, ◌∙◌, arith}
 use Rattle.ts_bits.specs.BitArray.{bit_array_of}
-use Rattle.ts_wavelet.specs.Nodes.{tops_in}
 use Rattle.ts_wavelet.specs.WaveletTree.{tree_bits, WaveletSays}
 use Rattle.ts_wavelet.proofs.Trees.{length-tops}
 use Rattle.ts_wavelet.proofs.Says.{says_control, found, found_tree, found_sequence}

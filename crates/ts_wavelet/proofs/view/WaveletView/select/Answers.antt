@@ -1,6 +1,4 @@
-use Rattle.std.proofs.Common.{◌≡◌, ◌≤◌, length, ap, sym, ◌∙◌, arith}
 use Rattle.ts_wavelet.specs.Nodes.{tops_in}
-use Rattle.ts_wavelet.specs.Sequence.{occurrences}
 use Rattle.ts_wavelet.proofs.Trees.{length-tops}
 use Rattle.ts_wavelet.proofs.Descents.{select_iff}
 use Rattle.ts_wavelet.proofs.view.WaveletView.select.Goals as goal
