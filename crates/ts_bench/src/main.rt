@@ -1,8 +1,8 @@
-//! Times the lookups of the structures over bytes: `bits N`, `numbers N`, `texts N`, `sequence N`. It prints nanoseconds for each lookup,
+//! Times the lookups of the structures over bytes: `bits N`, `numbers N`, `texts N`. It prints nanoseconds for each lookup,
 //! at places drawn at random. Any other words print what there is to time.
 #![tactic(auto)]
 
-ghost use Rattle.std.specs.Prelude.{◌≡◌, ◌^◌, ◌<◌, ◌≤◌, All, IfOk};
+ghost use Rattle.std.specs.Prelude.{◌≡◌};
 ghost use Rattle.std.specs.Cmp.Lexicographic.{slice_cmp};
 ghost use Rattle.std.specs.Ordering.{is_lt, nat_cmp};
 
@@ -13,7 +13,6 @@ use std::time::Instant;
 use ts_bits::{BitBuilder, BitView};
 use ts_front::{FrontBuilder, FrontView};
 use ts_log::{LogBuilder, LogView};
-use ts_wavelet::{write_wavelet, WaveletView};
 
 /// How many lookups of a kind are timed.
 const LOOKUPS: u32 = 1_000_000;
@@ -23,7 +22,6 @@ enum Task {
     Bits(u64),
     Numbers(u64),
     Texts(u64),
-    Sequence(u64),
     Nothing,
 }
 
@@ -32,9 +30,8 @@ fn main(rt: HostRuntime) -> anyhow::Result<()> {
         Task::Bits(count) => time_bits(&rt, rt.alloc(), count),
         Task::Numbers(count) => time_numbers(&rt, rt.alloc(), count),
         Task::Texts(count) => time_texts(&rt, rt.alloc(), count),
-        Task::Sequence(count) => time_sequence(&rt, rt.alloc(), count),
         Task::Nothing => {
-            println!(rt; "bits N, numbers N, texts N, sequence N")?;
+            println!(rt; "bits N, numbers N, texts N")?;
             Ok(())
         }
     }
@@ -53,28 +50,16 @@ fn read_task(rt: &(impl Env + AllocGlobal)) -> anyhow::Result<Task> {
         "bits" => Task::Bits(count),
         "numbers" => Task::Numbers(count),
         "texts" => Task::Texts(count),
-        "sequence" => Task::Sequence(count),
         _ => Task::Nothing,
     })
 }
 
 /// The next of a row of numbers that look drawn at random.
-fn draw(x: &mut u64) -> u64
-    ensures { result < 2 ^ 44 }
-{
+fn draw(x: &mut u64) -> u64 {
     *x = x
         .wrapping_mul(6_364_136_223_846_793_005)
         .wrapping_add(1_442_695_040_888_963_407);
     *x >> 20
-}
-
-/// A place below `len`, which looks drawn at random. A product and a shift cost less than a remainder.
-fn place(x: &mut u64, len: u64) -> u64
-    requires { 0 < len }
-    ensures { result < len }
-{
-    let drawn = u128::from(draw(x) >> 12);
-    ((drawn * u128::from(len)) >> 32) as u64
 }
 
 /// Prints how long a lookup took on average.
@@ -107,7 +92,7 @@ fn time_rank(rt: &(impl Print + Clock), view: &BitView<'_>) -> anyhow::Result<()
     let (mut x, mut seen) = (1, 0);
     let start = Instant::now(rt)?;
     for _ in 0..LOOKUPS {
-        seen ^= view.rank1(place(&mut x, len));
+        seen ^= view.rank1(draw(&mut x) % len);
     }
     tell(rt, "rank1", start, seen)
 }
@@ -120,7 +105,7 @@ fn time_select(rt: &(impl Print + Clock), view: &BitView<'_>) -> anyhow::Result<
     let (mut x, mut seen) = (1, 0);
     let start = Instant::now(rt)?;
     for _ in 0..LOOKUPS {
-        seen ^= view.select1(place(&mut x, ones)).unwrap_or(0);
+        seen ^= view.select1(draw(&mut x) % ones).unwrap_or(0);
     }
     tell(rt, "select1", start, seen)
 }
@@ -146,7 +131,7 @@ fn time_get(rt: &(impl Print + Clock), view: &LogView<'_>) -> anyhow::Result<()>
     let (mut x, mut seen) = (1, 0);
     let start = Instant::now(rt)?;
     for _ in 0..LOOKUPS {
-        seen ^= view.get(place(&mut x, len));
+        seen ^= view.get(draw(&mut x) % len);
     }
     tell(rt, "get", start, seen)
 }
@@ -204,87 +189,7 @@ fn time_find(rt: &(impl Print + Clock), view: &FrontView<'_>) -> anyhow::Result<
     let (mut x, mut seen) = (1, 0);
     let start = Instant::now(rt)?;
     for _ in 0..LOOKUPS {
-        seen ^= view.find(&digits_of(place(&mut x, len))).unwrap_or(0);
+        seen ^= view.find(&digits_of(draw(&mut x) % len)).unwrap_or(0);
     }
     tell(rt, "find", start, seen)
-}
-
-/// Numbers from 1 to 511, drawn at random.
-fn sequence(alloc: Global, count: u64) -> Result<Vec<u64>, AllocError>
-    ensures { IfOk result (λ numbers. All (λ x. 1 ≤ x) numbers.items) }
-{
-    let mut numbers = Vec::new(alloc);
-    let mut x = 1;
-    for _ in 0..count {
-        numbers.push(1 + draw(&mut x) % 511)?;
-    }
-    Ok(numbers)
-}
-
-fn time_sequence(rt: &(impl Print + Clock), alloc: Global, count: u64) -> anyhow::Result<()> {
-    let numbers = sequence(alloc, count)?;
-    let mut bytes = Vec::new(alloc);
-    write_wavelet(alloc, &numbers, &mut bytes)?;
-    if let Some(view) = WaveletView::open(&bytes, numbers.len() as u64) {
-        time_at(rt, &view)?;
-        time_occurrences(rt, &view)?;
-        time_place(rt, &view)?;
-        time_places(rt, &view)?;
-    }
-    Ok(())
-}
-
-fn time_at(rt: &(impl Print + Clock), view: &WaveletView<'_>) -> anyhow::Result<()> {
-    let len = view.len();
-    if len == 0 {
-        return Ok(());
-    }
-    let (mut x, mut seen) = (1, 0);
-    let start = Instant::now(rt)?;
-    for _ in 0..LOOKUPS {
-        seen ^= view.at(place(&mut x, len));
-    }
-    tell(rt, "at", start, seen)
-}
-
-fn time_occurrences(rt: &(impl Print + Clock), view: &WaveletView<'_>) -> anyhow::Result<()> {
-    let len = view.len();
-    if len == 0 {
-        return Ok(());
-    }
-    let (mut x, mut seen) = (1, 0);
-    let start = Instant::now(rt)?;
-    for _ in 0..LOOKUPS {
-        let p = 1 + place(&mut x, 511);
-        seen ^= view.rank(p, place(&mut x, len));
-    }
-    tell(rt, "rank", start, seen)
-}
-
-fn time_place(rt: &(impl Print + Clock), view: &WaveletView<'_>) -> anyhow::Result<()> {
-    let fewest = view.len() / 1024;
-    if fewest == 0 {
-        return Ok(());
-    }
-    let (mut x, mut seen) = (1, 0);
-    let start = Instant::now(rt)?;
-    for _ in 0..LOOKUPS {
-        let p = 1 + place(&mut x, 511);
-        seen ^= view.select(p, place(&mut x, fewest)).unwrap_or(0);
-    }
-    tell(rt, "select", start, seen)
-}
-
-/// All places of all numbers: as many steps as there are numbers.
-fn time_places(rt: &(impl Print + Clock), view: &WaveletView<'_>) -> anyhow::Result<()> {
-    let mut seen = 0;
-    let start = Instant::now(rt)?;
-    for p in 1..512 {
-        for found in view.places(p) {
-            seen ^= found;
-        }
-    }
-    let nanos = start.elapsed(rt)?.as_nanos() / u128::from(view.len().max(1));
-    println!(rt; "places {nanos} ns ({seen:x})")?;
-    Ok(())
 }

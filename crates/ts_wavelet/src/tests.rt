@@ -1,7 +1,6 @@
-//! The format's worked bytes, refused bytes, and longer sequences.
+//! The format's worked bytes, and refused bytes.
 
 use crate::{WaveletView, write_wavelet};
-use std::alloc::{AllocError, Global};
 use std::test::Fail;
 
 // The wavelet tree of 1, 2, 1.
@@ -75,29 +74,4 @@ fn refuses_other_bytes(rt: HostRuntime) {
     zero[16] = 0x48;
     assert!(rt; WaveletView::open(&zero, 3).is_none(), "a number 0");
     assert!(rt; WaveletView::open(&[], 0).is_none(), "no bytes");
-}
-
-// A sequence of numbers below 100, and the places of each, found and gone over.
-fn sequence_of(alloc: Global) -> Result<Vec<u64>, AllocError> {
-    let mut sequence = Vec::new(alloc);
-    for i in 0..1000u64 {
-        sequence.push(1 + i * i % 97)?;
-    }
-    Ok(sequence)
-}
-
-#[test]
-fn finds_each_number(rt: HostRuntime) -> Result<(), Fail> {
-    let sequence = sequence_of(rt.alloc())?;
-    let mut bytes = Vec::new(rt.alloc());
-    write_wavelet(rt.alloc(), &sequence, &mut bytes)?;
-    let view = WaveletView::open(&bytes, 1000).expect(&rt, "what was written");
-    for (j, p) in sequence.iter().enumerate() {
-        let place = j as u64;
-        assert_eq!(rt; view.at(place), *p);
-        let before = view.rank(*p, place);
-        assert_eq!(rt; view.select(*p, before), Some(place));
-        assert_eq!(rt; view.places_from(*p, place).next(), Some(place));
-    }
-    Ok(())
 }
