@@ -4,5 +4,5 @@ pub mod Bytes
 pub mod Arrays
 pub mod Counts
 pub mod Lookups
-pub mod Selects
+pub mod BitKinds
 pub mod Packing

@@ -13,3 +13,7 @@ rank bits i = ones (take i bits)
 -- the ones from place `from` up to place `to`, that one left out
 abbrev pub ones_between : List Bool → ℕ → ℕ → ℕ
 ones_between bits from to = rank bits to - rank bits from
+
+-- the zeros among the first i bits, where there are as many bits
+abbrev pub zero_rank : List Bool → ℕ → ℕ
+zero_rank bits i = i - rank bits i

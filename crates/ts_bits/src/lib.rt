@@ -2,8 +2,9 @@
 //!
 //! - [`BitBuilder`] takes bits one after the other and appends their ranked bit array to a buffer.
 //! - [`BitView`] borrows the bytes of such an array and reads the list in them, with no memory taken: a
-//!   bit by its place (`get`), the ones before a place (`rank1`), and the place of a one by the number of
-//!   ones before it (`select1`).
+//!   bit by its place (`get`), the ones before a place (`rank1`), both at once (`get_rank`), the next one
+//!   from a place on (`next1`), and the place of a one by the number of ones before it (`select1`), or of
+//!   a one or a zero within a range that holds it (`select1_in`, `select0_in`).
 //!
 //! # Bytes
 //!
@@ -17,13 +18,16 @@
 //!
 //! `BitsSay bytes bits` says that the bytes are the array of the bits. [`BitView::open`] answers a view
 //! exactly where some list is said, and a clause then sees the view as that list. `finish` appends bytes
-//! that say the bits that were pushed. `rank` and `IsPlaceOfOne` say what the lookups answer, of the list
-//! alone.
+//! that say the bits that were pushed. `rank`, `IsPlaceOfOne`, `IsPlaceOfZero` and `IsNextOne` say what
+//! the lookups answer, of the list alone.
 //!
 //! # Cost
 //!
 //! `open` goes over the words once. `get` reads one word, and `rank1` two counts and a word. `select1`
-//! searches by halves among the superblocks, then among the words of one, then within one word.
+//! guesses the superblock by how far `n` is on the way to all ones, goes on from there in steps that
+//! double, and halves what is left; then it counts among the words of one superblock, and within one word
+//! first bytes and then bits. `select1_in` and `select0_in` do the same within the superblocks of their
+//! range. `next1` reads one word, and selects where the word has no one.
 #![tactic(auto)]
 
 mod builder;

@@ -1,8 +1,9 @@
 //! The parts of a ranked bit array, and whether its counts are those of its words.
 
-ghost use Rattle.std.specs.Prelude.{◌≡◌, ◌*◌, ◌^◌, ◌<◌, ◌↔◌, length, IsTrue, IfNone, IfSome, All};
+ghost use Rattle.std.specs.Prelude.{◌≡◌, ◌*◌, ◌^◌, ◌<◌, ◌≤◌, ◌↔◌, length, IsTrue, IfNone, IfSome, All};
 ghost use Rattle.ts_bits.specs.BitArray.{words_in, superblocks_in, SayNoBits};
-ghost use Rattle.ts_bits.specs.Ranked.{number_in, bits_of_words, IsSplit, IsClearBehind, HasCounts, Agrees, IsWhole};
+ghost use Rattle.ts_bits.specs.Rank.{rank};
+ghost use Rattle.ts_bits.specs.Ranked.{number_in, bits_of_words, IsSplit, IsClearBehind, HasCounts, Agrees, IsRanked, IsWhole};
 
 use byteorder::{BigEndian, ByteOrder};
 
@@ -77,6 +78,44 @@ impl<'a> Parts<'a> {
         BigEndian::read_u16(&self.counts[2 * k as usize..])
     }
 
+    /// How many words there are.
+    pub(crate) fn word_count(&self) -> u64
+        ensures { result ≡ words_in self.now.len }
+    {
+        self.len.div_ceil(64)
+    }
+
+    /// How many superblocks there are.
+    pub(crate) fn superblock_count(&self) -> u64
+        ensures { result ≡ superblocks_in self.now.len }
+    {
+        self.word_count().div_ceil(8)
+    }
+
+    /// The ones in all words before word `k`.
+    pub(crate) fn ones_before(&self, k: u64) -> u64
+        requires within { 64 * k < self.now.len }
+        requires ranked { IsRanked self.now.len self.now.words.now self.now.superblocks.now self.now.counts.now }
+        ensures { result ≡ rank (bits_of_words self.now.len (number_in 8 self.now.words.now)) (64 * k) }
+    {
+        self.superblock(k / 8) + u64::from(self.count(k))
+    }
+
+    /// The ones among the first `i` bits.
+    pub(crate) fn rank1(&self, i: u64) -> u64
+        requires within { i ≤ self.now.len }
+        requires ranked { IsRanked self.now.len self.now.words.now self.now.superblocks.now self.now.counts.now }
+        ensures { result ≡ rank (bits_of_words self.now.len (number_in 8 self.now.words.now)) i }
+    {
+        if i == 0 {
+            return 0;
+        }
+        let k = (i - 1) / 64;
+        let behind = 63 - (i - 1) % 64;
+        let front = self.word(k) >> behind;
+        self.ones_before(k) + u64::from(front.count_ones())
+    }
+
     /// Whether the last word has zeros alone behind the bits.
     pub(crate) fn is_clear(&self) -> bool
         ensures { IsTrue result ↔ IsClearBehind self.now.len (number_in 8 self.now.words.now) }
@@ -110,7 +149,7 @@ impl<'a> Parts<'a> {
             self.now.superblocks.now self.now.counts.now }
     {
         let mut total = 0u64;
-        for k in 0..self.len.div_ceil(64) {
+        for k in 0..self.word_count() {
             if !self.agrees_at(k, total) {
                 return false;
             }

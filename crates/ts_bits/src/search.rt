@@ -1,26 +1,103 @@
-//! Searches by halves for the one with a given number of ones before it: its superblock, its word, and
-//! its place there.
+//! Searches for the bit of a kind, one or zero, with a given number of its kind before it: its superblock,
+//! its word, and its place there.
 
-ghost use Rattle.std.specs.Prelude.{◌≡◌, ◌+◌, ◌-◌, ◌*◌, ◌/◌, ◌^◌, ◌<◌, ◌≤◌, count_ones};
+ghost use Rattle.std.specs.Prelude.{◌≡◌, ◌+◌, ◌*◌, ◌/◌, ◌<◌, ◌≤◌, true, IfNone, IfSome};
 ghost use Rattle.ts_bits.specs.BitArray.{words_in, superblocks_in};
-ghost use Rattle.ts_bits.specs.Ranked.{number_in};
+ghost use Rattle.ts_bits.specs.BitKinds.{before_superblock, before_word, before_place, Brackets, IsNextInWord};
 
 use crate::parts::Parts;
 
-/// The last superblock with at most `n` ones before it.
-pub(crate) fn superblock_of(parts: &Parts, n: u64) -> u64
-    requires some { 0 < superblocks_in parts.now.len }
-    requires first { number_in 8 parts.now.superblocks.now 0 ≤ n }
-    ensures within { result < superblocks_in parts.now.len }
-    ensures low { number_in 8 parts.now.superblocks.now result ≤ n }
-    ensures high { result + 1 < superblocks_in parts.now.len
-        → n < number_in 8 parts.now.superblocks.now (result + 1) }
+/// Those of the kind before superblock `k`.
+pub(crate) fn kind_before_superblock(parts: &Parts, kind: bool, k: u64) -> u64
+    requires { k < superblocks_in parts.now.len }
+    ensures { result ≡ before_superblock kind parts.now.superblocks.now k }
 {
-    let mut low = 0;
-    let mut high = parts.len.div_ceil(64).div_ceil(8);
+    let ones = parts.superblock(k);
+    if kind {
+        ones
+    } else {
+        (512 * k).saturating_sub(ones)
+    }
+}
+
+/// Those of the kind in its superblock before word `k`.
+pub(crate) fn kind_before_word(parts: &Parts, kind: bool, k: u64) -> u64
+    requires { k < words_in parts.now.len }
+    ensures { result ≡ before_word kind parts.now.counts.now k }
+{
+    let ones = u64::from(parts.count(k));
+    if kind {
+        ones
+    } else {
+        (64 * (k % 8)).saturating_sub(ones)
+    }
+}
+
+/// Where the superblock may be: as far between the two as `n` is between their counts. `total` stands for
+/// the count behind the last superblock. Any place between is a right answer, and the next searches go
+/// from there.
+fn guess(parts: &Parts, kind: bool, low: u64, high: u64, n: u64, total: u64) -> u64
+    requires { Brackets (before_superblock kind parts.now.superblocks.now) (superblocks_in parts.now.len) n low high }
+    ensures from { low ≤ result }
+    ensures within { result < high }
+{
+    let first = kind_before_superblock(parts, kind, low);
+    let last = if high < parts.superblock_count() {
+        kind_before_superblock(parts, kind, high)
+    } else {
+        total
+    };
+    let span = last.saturating_sub(first).max(1);
+    let width = high - low;
+    low + ((n - first).wrapping_mul(width) / span).min(width - 1)
+}
+
+/// Goes up from `low` in steps that double, until `n` is passed.
+fn climb(parts: &Parts, kind: bool, low: u64, high: u64, n: u64) -> (u64, u64)
+    requires { Brackets (before_superblock kind parts.now.superblocks.now) (superblocks_in parts.now.len) n low high }
+    ensures { Brackets (before_superblock kind parts.now.superblocks.now) (superblocks_in parts.now.len) n result.0 result.1 }
+{
+    let mut low = low;
+    let mut step = 1;
+    while step < high - low {
+        let next = low + step;
+        if kind_before_superblock(parts, kind, next) > n {
+            return (low, next);
+        }
+        low = next;
+        step *= 2;
+    }
+    (low, high)
+}
+
+/// Goes down from `high` in steps that double, until `n` is not passed.
+fn descend(parts: &Parts, kind: bool, low: u64, high: u64, n: u64) -> (u64, u64)
+    requires { Brackets (before_superblock kind parts.now.superblocks.now) (superblocks_in parts.now.len) n low high }
+    ensures { Brackets (before_superblock kind parts.now.superblocks.now) (superblocks_in parts.now.len) n result.0 result.1 }
+{
+    let mut high = high;
+    let mut step = 1;
+    while step < high - low {
+        let next = high - step;
+        if kind_before_superblock(parts, kind, next) <= n {
+            return (next, high);
+        }
+        high = next;
+        step *= 2;
+    }
+    (low, high)
+}
+
+/// Halves the superblocks between, until one is left.
+fn halve(parts: &Parts, kind: bool, low: u64, high: u64, n: u64) -> u64
+    requires { Brackets (before_superblock kind parts.now.superblocks.now) (superblocks_in parts.now.len) n low high }
+    ensures { Brackets (before_superblock kind parts.now.superblocks.now) (superblocks_in parts.now.len) n result (result + 1) }
+{
+    let mut low = low;
+    let mut high = high;
     while high - low > 1 {
         let middle = low + (high - low) / 2;
-        if parts.superblock(middle) <= n {
+        if kind_before_superblock(parts, kind, middle) <= n {
             low = middle;
         } else {
             high = middle;
@@ -29,45 +106,103 @@ pub(crate) fn superblock_of(parts: &Parts, n: u64) -> u64
     low
 }
 
-/// The last word of superblock `block` with at most `n` ones before it there.
-pub(crate) fn word_of(parts: &Parts, block: u64, n: u64) -> u64
+/// The last superblock of those between with at most `n` of the kind before it.
+pub(crate) fn superblock_of(
+    parts: &Parts,
+    kind: bool,
+    low: u64,
+    high: u64,
+    n: u64,
+    total: u64,
+) -> u64
+    requires { Brackets (before_superblock kind parts.now.superblocks.now) (superblocks_in parts.now.len) n low high }
+    ensures { Brackets (before_superblock kind parts.now.superblocks.now) (superblocks_in parts.now.len) n result (result + 1) }
+{
+    if high - low == 1 {
+        return low;
+    }
+    let near = guess(parts, kind, low, high, n, total);
+    let (low, high) = if kind_before_superblock(parts, kind, near) <= n {
+        climb(parts, kind, near, high, n)
+    } else {
+        descend(parts, kind, low, near, n)
+    };
+    halve(parts, kind, low, high, n)
+}
+
+/// The last word of superblock `block` with at most `n` of the kind before it there.
+pub(crate) fn word_of(parts: &Parts, kind: bool, block: u64, n: u64) -> u64
     requires some { 8 * block < words_in parts.now.len }
-    requires first { number_in 2 parts.now.counts.now (8 * block) ≤ n }
+    requires first { before_word kind parts.now.counts.now (8 * block) ≤ n }
     ensures within { result < words_in parts.now.len }
     ensures there { result / 8 ≡ block }
-    ensures low { number_in 2 parts.now.counts.now result ≤ n }
+    ensures low { before_word kind parts.now.counts.now result ≤ n }
     ensures high { result + 1 < words_in parts.now.len → (result + 1) / 8 ≡ block
-        → n < number_in 2 parts.now.counts.now (result + 1) }
+        → n < before_word kind parts.now.counts.now (result + 1) }
 {
-    let mut low = 8 * block;
-    let mut high = parts.len.div_ceil(64).min(low + 8);
-    while high - low > 1 {
-        let middle = low + (high - low) / 2;
-        if u64::from(parts.count(middle)) <= n {
-            low = middle;
-        } else {
-            high = middle;
+    let first = 8 * block;
+    let end = parts.word_count().min(first + 8);
+    let mut found = first;
+    for k in first + 1..end {
+        if kind_before_word(parts, kind, k) <= n {
+            found = k;
         }
     }
-    low
+    found
 }
 
-/// The place, from the top, of the one of `word` with exactly `n` ones above it.
-pub(crate) fn place_in_word(word: u64, n: u64) -> u64
-    requires { n < count_ones word }
-    ensures within { result < 64 }
-    ensures low { count_ones (word / 2 ^ (64 - result)) ≤ n }
-    ensures high { n < count_ones (word / 2 ^ (63 - result)) }
+/// How many of the seven steps behind `from` have at most `n` of the kind before them in the word.
+fn steps_within(word: u64, kind: bool, from: u64, step: u64, n: u64) -> u64
+    requires some { 0 < step }
+    requires fits { from + 8 * step ≤ 64 }
+    requires low { before_place kind word from ≤ n }
+    requires high { n < before_place kind word (from + 8 * step) }
+    ensures within { result < 8 }
+    ensures low { before_place kind word (from + step * result) ≤ n }
+    ensures high { n < before_place kind word (from + step * (result + 1)) }
 {
-    let mut low = 0u64;
-    let mut high = 64u64;
-    while high - low > 1 {
-        let middle = low + (high - low) / 2;
-        if u64::from((word >> (64 - middle)).count_ones()) <= n {
-            low = middle;
+    let mut steps = 0;
+    for j in 1..8u64 {
+        let place = from + step * j;
+        let ones = u64::from((word >> (64 - place)).count_ones());
+        let before = if kind {
+            ones
         } else {
-            high = middle;
+            place.saturating_sub(ones)
+        };
+        if before <= n {
+            steps = j;
         }
     }
-    low
+    steps
+}
+
+/// The place, from the top, of the bit of `word` with exactly `n` of its kind above it: first its byte,
+/// then its place there.
+pub(crate) fn place_in_word(word: u64, kind: bool, n: u64) -> u64
+    requires { n < before_place kind word 64 }
+    ensures within { result < 64 }
+    ensures low { before_place kind word result ≤ n }
+    ensures high { n < before_place kind word (result + 1) }
+{
+    let byte = 8 * steps_within(word, kind, 0, 8, n);
+    byte + steps_within(word, kind, byte, 1, n)
+}
+
+/// The place, from the top, of the first one of `word` at or behind place `from`.
+pub(crate) fn next_in_word(word: u64, from: u64) -> Option<u64>
+    requires { from < 64 }
+    ensures none { IfNone result (before_place true word 64 ≡ before_place true word from) }
+    ensures some { IfSome result (IsNextInWord word from) }
+{
+    let rest = if from == 0 {
+        word
+    } else {
+        word % (1 << (64 - from))
+    };
+    if rest == 0 {
+        None
+    } else {
+        Some(u64::from(rest.leading_zeros()))
+    }
 }

@@ -42,6 +42,18 @@ fn reads_three_bits(rt: HostRuntime) {
 }
 
 #[test]
+fn finds_bits_in_a_range(rt: HostRuntime) {
+    let view = BitView::open(&THREE).expect(&rt, "three bits");
+    assert_eq!(rt; view.get_rank(1), (false, 1));
+    assert_eq!(rt; view.get_rank(2), (true, 1));
+    assert_eq!(rt; view.next1(0), Some(0));
+    assert_eq!(rt; view.next1(1), Some(2));
+    assert_eq!(rt; view.next1(3), None);
+    assert_eq!(rt; view.select1_in(1, 3, 1), 2);
+    assert_eq!(rt; view.select0_in(0, 2, 0), 1);
+}
+
+#[test]
 fn reads_checked_bytes(rt: HostRuntime) {
     let view = BitView::open(&THREE).expect(&rt, "three bits");
     let again = BitView::of_checked(&THREE).copy();

@@ -1,31 +1,39 @@
 //! A list of bits, read in the bytes of its ranked bit array.
 
 ghost use Rattle.std.specs.Prelude.{◌≡◌, ◌*◌, ◌<◌, ◌≤◌, ◌↔◌, List, Bool, Some, length, slice_get, IsNone, IfNone, IfSome};
-ghost use Rattle.ts_bits.specs.BitArray.{BitsSay, SayNoBits, SayOnly};
-ghost use Rattle.ts_bits.specs.Rank.{ones, rank};
-ghost use Rattle.ts_bits.specs.Select.{IsPlaceOfOne};
+ghost use Rattle.ts_bits.specs.BitArray.{superblocks_in, BitsSay, SayNoBits, SayOnly};
+ghost use Rattle.ts_bits.specs.Rank.{ones, rank, zero_rank};
+ghost use Rattle.ts_bits.specs.Select.{IsPlaceOfOne, IsPlaceOfZero, IsNextOne};
+ghost use Rattle.ts_bits.specs.Ranked.{number_in, bits_of_words, IsRanked};
+ghost use Rattle.ts_bits.specs.BitKinds.{kind_rank, superblock_rank, IsPlaceOfKind, Brackets};
 
 use crate::parts::Parts;
-use crate::search::{place_in_word, superblock_of, word_of};
+use crate::search::{
+    kind_before_superblock, kind_before_word, next_in_word, place_in_word, superblock_of, word_of,
+};
 use std::marker::Model;
 
 /// A list of bits over the bytes of its ranked bit array, which it borrows. A clause sees the list.
 #[derive(Drop)]
 pub struct BitView<'a> {
     parts: Parts<'a>,
+    total: u64,
 }
 
 impl<'a> Model for BitView<'a> {
-    ghost use Rattle.std.specs.Prelude.{List, Bool};
+    ghost use Rattle.std.specs.Prelude.{◌≡◌, List, Bool};
 
     ghost Value = { List Bool };
 
+    ghost use Rattle.ts_bits.specs.Rank.{ones};
     ghost use Rattle.ts_bits.specs.Ranked.{number_in, bits_of_words, IsRanked};
 
     ghost view = { λ v. bits_of_words v.parts.len (number_in 8 v.parts.words.now) };
 
-    ghost invariant = { λ v.
-        IsRanked v.parts.len v.parts.words.now v.parts.superblocks.now v.parts.counts.now };
+    ghost invariant = { λ v. record {
+      ranked : IsRanked v.parts.len v.parts.words.now v.parts.superblocks.now v.parts.counts.now;
+      counted : v.total ≡ ones (bits_of_words v.parts.len (number_in 8 v.parts.words.now));
+    } };
 }
 
 impl<'a> BitView<'a> {
@@ -37,10 +45,19 @@ impl<'a> BitView<'a> {
     {
         let parts = Parts::split(bytes)?;
         if parts.is_whole() {
-            Some(BitView { parts })
+            Some(BitView::of_whole(parts))
         } else {
             None
         }
+    }
+
+    /// The list in the parts of an array that counts its ones.
+    fn of_whole(parts: Parts<'a>) -> BitView<'a>
+        requires { IsRanked parts.len parts.words.now parts.superblocks.now parts.counts.now }
+        ensures { result ≡ bits_of_words parts.entry.len (number_in 8 parts.entry.words.now) }
+    {
+        let total = parts.rank1(parts.len);
+        BitView { parts, total }
     }
 
     /// The list that the bytes say, where some list is known to be said. The words are not gone over.
@@ -50,7 +67,7 @@ impl<'a> BitView<'a> {
         ensures only { SayOnly bytes.now result }
     {
         match Parts::split(bytes) {
-            Some(parts) => BitView { parts },
+            Some(parts) => BitView::of_whole(parts),
             None => unreachable!(),
         }
     }
@@ -59,7 +76,10 @@ impl<'a> BitView<'a> {
     pub fn copy(&self) -> BitView<'a>
         ensures { result ≡ self.now }
     {
-        BitView { parts: self.parts }
+        BitView {
+            parts: self.parts,
+            total: self.total,
+        }
     }
 
     /// How many bits the list has.
@@ -78,26 +98,59 @@ impl<'a> BitView<'a> {
         (word >> (63 - i % 64)) & 1 == 1
     }
 
-    /// The ones in all words before word `k`.
-    fn ones_before(&self, k: u64) -> u64
-        requires { 64 * k < length self.now }
-        ensures { result ≡ rank self.now (64 * k) }
-    {
-        self.parts.superblock(k / 8) + u64::from(self.parts.count(k))
-    }
-
     /// The ones among the first `i` bits.
     pub fn rank1(&self, i: u64) -> u64
         requires { i ≤ length self.now }
         ensures { result ≡ rank self.now i }
     {
-        if i == 0 {
-            return 0;
+        self.parts.rank1(i)
+    }
+
+    /// Bit `i`, counted from 0, and the ones before it, by one look at its word.
+    pub fn get_rank(&self, i: u64) -> (bool, u64)
+        requires { i < length self.now }
+        ensures bit { slice_get self.now i ≡ Some result.0 }
+        ensures rank { result.1 ≡ rank self.now i }
+    {
+        let word = self.parts.word(i / 64);
+        let behind = 63 - i % 64;
+        let front = (word >> 1) >> behind;
+        let before = self.parts.ones_before(i / 64) + u64::from(front.count_ones());
+        ((word >> behind) & 1 == 1, before)
+    }
+
+    /// The least place at or after `i` with a one, or `None` where no one stands there.
+    pub fn next1(&self, i: u64) -> Option<u64>
+        requires { i ≤ length self.now }
+        ensures none { IfNone result (rank self.now i ≡ ones self.now) }
+        ensures some { IfSome result (IsNextOne self.now i) }
+    {
+        if i == self.parts.len {
+            return None;
         }
-        let k = (i - 1) / 64;
-        let behind = 63 - (i - 1) % 64;
-        let front = self.parts.word(k) >> behind;
-        self.ones_before(k) + u64::from(front.count_ones())
+        match next_in_word(self.parts.word(i / 64), i % 64) {
+            Some(place) => Some(64 * (i / 64) + place),
+            None => self.select1(self.rank1(i)),
+        }
+    }
+
+    /// The place of the bit of the kind with exactly `n` of its kind before it. The superblocks between
+    /// are searched, which pass it.
+    fn place_of(&self, kind: bool, low: u64, high: u64, n: u64) -> u64
+        requires some { n < kind_rank kind self.now (length self.now) }
+        requires between { Brackets (superblock_rank kind self.now) (superblocks_in (length self.now)) n low high }
+        ensures { IsPlaceOfKind kind self.now n result }
+    {
+        let total = if kind {
+            self.total
+        } else {
+            self.parts.len - self.total
+        };
+        let block = superblock_of(&self.parts, kind, low, high, n, total);
+        let inside = n - kind_before_superblock(&self.parts, kind, block);
+        let k = word_of(&self.parts, kind, block, inside);
+        let left = inside - kind_before_word(&self.parts, kind, k);
+        64 * k + place_in_word(self.parts.word(k), kind, left)
     }
 
     /// The place of the one with exactly `n` ones before it, or `None` where at most `n` ones stand.
@@ -105,13 +158,33 @@ impl<'a> BitView<'a> {
         ensures none { IsNone result ↔ (ones self.now ≤ n) }
         ensures some { IfSome result (IsPlaceOfOne self.now n) }
     {
-        if n >= self.rank1(self.len()) {
+        if n >= self.total {
             return None;
         }
-        let block = superblock_of(&self.parts, n);
-        let inside = n - self.parts.superblock(block);
-        let k = word_of(&self.parts, block, inside);
-        let left = inside - u64::from(self.parts.count(k));
-        Some(64 * k + place_in_word(self.parts.word(k), left))
+        Some(self.place_of(true, 0, self.parts.superblock_count(), n))
+    }
+
+    /// The place of the one with exactly `n` ones before it, which stands from place `from` on and before
+    /// place `to`. Only superblocks of that range are searched.
+    pub fn select1_in(&self, from: u64, to: u64, n: u64) -> u64
+        requires order { from ≤ to }
+        requires within { to ≤ length self.now }
+        requires low { rank self.now from ≤ n }
+        requires high { n < rank self.now to }
+        ensures { IsPlaceOfOne self.now n result }
+    {
+        self.place_of(true, from / 512, to.div_ceil(512), n)
+    }
+
+    /// The place of the zero with exactly `n` zeros before it, which stands from place `from` on and before
+    /// place `to`. Only superblocks of that range are searched.
+    pub fn select0_in(&self, from: u64, to: u64, n: u64) -> u64
+        requires order { from ≤ to }
+        requires within { to ≤ length self.now }
+        requires low { zero_rank self.now from ≤ n }
+        requires high { n < zero_rank self.now to }
+        ensures { IsPlaceOfZero self.now n result }
+    {
+        self.place_of(false, from / 512, to.div_ceil(512), n)
     }
 }

@@ -1,17 +1,11 @@
-use Rattle.std.proofs.Common.{◌≡◌, ◌+◌, ◌-◌, ◌*◌, ◌/◌, ◌<◌, ◌≤◌}
-use Rattle.ts_bits.specs.BitArray.{words_in}
-use Rattle.ts_bits.specs.Ranked.{number_in}
+use Rattle.std.proofs.Common.{◌*◌, ◌+◌, ◌<◌, ◌≤◌}
+use Rattle.ts_bits.specs.BitKinds.{before_word}
 use Rattle.ts_bits.proofs.search.word_of.Given as goal
 
-abbrev pub invariant-loop-high : goal.invariant-loop-high
-invariant-loop-high l = record {
-  order : l.low < l.high;
-  from : 8 * l.block ≤ l.low;
-  within : l.high ≤ words_in l.parts.len;
-  there : l.high ≤ 8 * l.block + 8;
-  below : number_in 2 l.parts.counts.now l.low ≤ l.n;
-  above : l.high < words_in l.parts.len → l.high / 8 ≡ l.block → l.n < number_in 2 l.parts.counts.now l.high;
+abbrev pub invariant-loop-k : goal.invariant-loop-k
+invariant-loop-k l = record {
+  from : 8 * l.block ≤ l.found;
+  before : l.found < l.k;
+  below : before_word l.kind l.parts.counts.now l.found ≤ l.n;
+  above : l.found + 1 < l.k → l.n < before_word l.kind l.parts.counts.now (l.found + 1);
 }
-
-abbrev pub decreases-loop-high : goal.decreases-loop-high
-decreases-loop-high l = l.high - l.low

@@ -1,0 +1,11 @@
+pub mod Filters
+pub mod Counts
+pub mod Orders
+pub mod Trees
+pub mod Descents
+pub mod Walks
+pub mod Says
+pub mod Widths
+pub mod Pushes
+pub mod Parting
+pub mod Written

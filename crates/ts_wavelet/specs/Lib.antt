@@ -1,0 +1,5 @@
+pub mod Sequence
+pub mod WaveletTree
+pub mod Nodes
+pub mod Vector
+pub mod Control
