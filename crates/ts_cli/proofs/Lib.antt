@@ -2,3 +2,4 @@ mod CauseLaws
 mod EndsLemmas
 mod HeadlineLaws
 mod InputLemmas
+mod StoppedLaws

@@ -1,7 +1,8 @@
 use Rattle.std.proofs.Common.{List, ℕ, map, string_bytes, sym, ◌∙◌, subst, true≢false}
 use Rattle.ts_script.specs.Lines.{lines_of}
-use Rattle.ts_script.specs.Commands.{IsCommand}
+use Rattle.ts_script.specs.Commands.{IsCommand, IsStopFor}
 use Rattle.ts_cli.proofs.InputLemmas.{asks_of, over_limit}
+use Rattle.ts_cli.proofs.StoppedLaws.{awaits_none}
 use Rattle.ts_cli.proofs.running.read_command.Goals as goal
 
 pub returns-in-Err-Limit-clause-limit : goal.returns-in-Err-Limit-clause-limit
@@ -21,3 +22,18 @@ returns-in-Ok-Some-clause-asks g c =
     (subst (λ n. (lines : List (List ℕ)) × IsCommand words n lines command) fresh.number (rw c.in-Ok-Some.field-0-is at first.some))
     (λ told. subst (λ n. IsCommand words n (lines_of left) command) fresh.number
     (rw c.in-Ok-Some.field-0-is at (first.command told (λ ended. absurd (true≢false (sym ended ∙ fresh.has_ended))) (lines_of left) (c.in-Ok.ensures.lines left))))
+
+pub returns-in-Ok-Some-clause-no_command : goal.returns-in-Ok-Some-clause-no_command
+returns-in-Ok-Some-clause-no_command g c = λ none.
+    let some = rw c.in-Ok-Some.field-0-is at c.in-Ok-Some.ensures.some in
+    absurd (none some.1.0 some.1.1)
+
+pub returns-in-Err-Fault-clause-no_command : goal.returns-in-Err-Fault-clause-no_command
+returns-in-Err-Fault-clause-no_command g c = λ none.
+    let words = map string_bytes c.args.words.now in
+    absurd (awaits_none words none (subst (IsStopFor words) c.in-Err-Fault.field-0-is c.in-Err-Fault.ensures.stops))
+
+pub returns-in-Err-Limit-clause-no_command : goal.returns-in-Err-Limit-clause-no_command
+returns-in-Err-Limit-clause-no_command g c = λ none.
+    let words = map string_bytes c.args.words.now in
+    absurd (awaits_none words none (subst (IsStopFor words) c.in-Err-Limit.field-0-is c.in-Err-Limit.ensures.stops))

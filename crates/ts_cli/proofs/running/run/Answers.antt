@@ -9,6 +9,7 @@ use Rattle.ts_store.specs.Stops.{is_disk_fault, is_output_fault}
 use Rattle.ts_cli.specs.Outcomes.{IsReadingStop, stop_of}
 use Rattle.ts_cli.proofs.CauseLaws.{fault_is, input_read, limit_read, read_no_stop, rose_at, some_is, usage_read}
 use Rattle.ts_cli.proofs.HeadlineLaws.{headline_replies, headline_folder, damaged_cause}
+use Rattle.ts_cli.proofs.StoppedLaws.{awaits_none, complete_stopped, damaged_stopped, disk_stopped, input_stopped, limit_stopped, output_stopped, usage_stopped}
 use Rattle.ts_cli.proofs.running.run.Goals as goal
 
 pub returns-in-Err-clause-ends : goal.returns-in-Err-clause-ends
@@ -107,3 +108,26 @@ returns-clause-causes g c =
       λ told. damaged_cause s told (Asks words tells_input left) outcome answer is (ends told) (λ other same. cc),
       limit_read outcome answer is later _ tells_input left _ c.in-Ok.ensures.short,
     )
+
+pub returns-in-Err-clause-causes : goal.returns-in-Err-clause-causes
+returns-in-Err-clause-causes g c =
+    let words = map string_bytes c.args.words.now in
+    let outcome = c.stopped.result in
+    let stop = c.in-Err.stop in
+    let is = c.stopped.ensures in
+    let why = c.in-Err.ensures.why in (
+      usage_stopped outcome stop is why words c.in-Err.ensures.usage c.in-Err.ensures.no_command,
+      disk_stopped outcome stop is why _,
+      output_stopped outcome stop is why _,
+      input_stopped outcome stop is why _ _ c.in-Err.ensures.counts,
+      λ told. damaged_stopped outcome stop is why (g.W.Disk.outside c.args.site.now).folder,
+      limit_stopped outcome stop is why _ (g.S.Source.tells c.args.input.now) (g.S.Source.left c.args.input.now) _ c.in-Err.ensures.reads c.in-Err.ensures.limit,
+    )
+
+pub returns-in-Err-clause-complete : goal.returns-in-Err-clause-complete
+returns-in-Err-clause-complete g c = λ command short tells sound disk output input.
+    complete_stopped c.stopped.result c.in-Err.stop c.stopped.ensures c.in-Err.ensures.why (map string_bytes c.args.words.now) (g.S.Source.tells c.args.input.now) (g.S.Source.left c.args.input.now) _ _ _
+    c.in-Err.ensures.usage command c.in-Err.ensures.reads c.in-Err.ensures.limit short c.in-Err.ensures.counts input
+
+pub returns-in-Err-clause-untouched : goal.returns-in-Err-clause-untouched
+returns-in-Err-clause-untouched g c = λ none. (refl, c.in-Err.ensures.untouched (awaits_none (map string_bytes c.args.words.now) none))
