@@ -44,6 +44,7 @@ fn reads_three_bits(rt: HostRuntime) {
 #[test]
 fn finds_bits_in_a_range(rt: HostRuntime) {
     let view = BitView::open(&THREE).expect(&rt, "three bits");
+    assert_eq!(rt; view.len(), 3);
     assert_eq!(rt; view.get_rank(1), (false, 1));
     assert_eq!(rt; view.get_rank(2), (true, 1));
     assert_eq!(rt; view.next1(0), Some(0));
