@@ -1,8 +1,8 @@
-//! Times the lookups of the structures over bytes: `bits N`, `numbers N`, `texts N`. It prints nanoseconds for each lookup,
+//! Times the lookups of the structures over bytes: `bits N`, `numbers N`, `texts N`, `sequence N`. It prints nanoseconds for each lookup,
 //! at places drawn at random. Any other words print what there is to time.
 #![tactic(auto)]
 
-ghost use Rattle.std.specs.Prelude.{◌≡◌};
+ghost use Rattle.std.specs.Prelude.{◌≡◌, ◌≤◌, All, IfOk};
 ghost use Rattle.std.specs.Cmp.Lexicographic.{slice_cmp};
 ghost use Rattle.std.specs.Ordering.{is_lt, nat_cmp};
 
@@ -13,6 +13,7 @@ use std::time::Instant;
 use ts_bits::{BitBuilder, BitView};
 use ts_front::{FrontBuilder, FrontView};
 use ts_log::{LogBuilder, LogView};
+use ts_wavelet::{WaveletView, write_wavelet};
 
 /// How many lookups of a kind are timed.
 const LOOKUPS: u32 = 1_000_000;
@@ -22,6 +23,7 @@ enum Task {
     Bits(u64),
     Numbers(u64),
     Texts(u64),
+    Sequence(u64),
     Nothing,
 }
 
@@ -30,8 +32,9 @@ fn main(rt: HostRuntime) -> anyhow::Result<()> {
         Task::Bits(count) => time_bits(&rt, rt.alloc(), count),
         Task::Numbers(count) => time_numbers(&rt, rt.alloc(), count),
         Task::Texts(count) => time_texts(&rt, rt.alloc(), count),
+        Task::Sequence(count) => time_sequence(&rt, rt.alloc(), count),
         Task::Nothing => {
-            println!(rt; "bits N, numbers N, texts N")?;
+            println!(rt; "bits N, numbers N, texts N, sequence N")?;
             Ok(())
         }
     }
@@ -50,6 +53,7 @@ fn read_task(rt: &(impl Env + AllocGlobal)) -> anyhow::Result<Task> {
         "bits" => Task::Bits(count),
         "numbers" => Task::Numbers(count),
         "texts" => Task::Texts(count),
+        "sequence" => Task::Sequence(count),
         _ => Task::Nothing,
     })
 }
@@ -196,4 +200,84 @@ fn time_find(rt: &(impl Print + Clock), view: &FrontView<'_>) -> anyhow::Result<
         seen ^= view.find(&digits_of(draw(&mut x) % len)).unwrap_or(0);
     }
     tell(rt, "find", start, seen)
+}
+
+/// Numbers from 1 to 511, drawn at random.
+fn sequence(alloc: Global, count: u64) -> Result<Vec<u64>, AllocError>
+    ensures { IfOk result (λ numbers. All (λ x. 1 ≤ x) numbers.items) }
+{
+    let mut numbers = Vec::new(alloc);
+    let mut x = 1;
+    for _ in 0..count {
+        numbers.push(1 + draw(&mut x) % 511)?;
+    }
+    Ok(numbers)
+}
+
+fn time_sequence(rt: &(impl Print + Clock), alloc: Global, count: u64) -> anyhow::Result<()> {
+    let numbers = sequence(alloc, count)?;
+    let mut bytes = Vec::new(alloc);
+    write_wavelet(alloc, &numbers, &mut bytes)?;
+    if let Some(view) = WaveletView::open(&bytes, numbers.len() as u64) {
+        time_at(rt, &view)?;
+        time_occurrences(rt, &view)?;
+        time_place(rt, &view)?;
+        time_places(rt, &view)?;
+    }
+    Ok(())
+}
+
+fn time_at(rt: &(impl Print + Clock), view: &WaveletView<'_>) -> anyhow::Result<()> {
+    let len = view.len();
+    if len == 0 {
+        return Ok(());
+    }
+    let (mut x, mut seen) = (1, 0);
+    let start = Instant::now(rt)?;
+    for _ in 0..LOOKUPS {
+        seen ^= view.at(draw(&mut x) % len);
+    }
+    tell(rt, "at", start, seen)
+}
+
+fn time_occurrences(rt: &(impl Print + Clock), view: &WaveletView<'_>) -> anyhow::Result<()> {
+    let len = view.len();
+    if len == 0 {
+        return Ok(());
+    }
+    let (mut x, mut seen) = (1, 0);
+    let start = Instant::now(rt)?;
+    for _ in 0..LOOKUPS {
+        let p = 1 + draw(&mut x) % 511;
+        seen ^= view.rank(p, draw(&mut x) % len);
+    }
+    tell(rt, "rank", start, seen)
+}
+
+fn time_place(rt: &(impl Print + Clock), view: &WaveletView<'_>) -> anyhow::Result<()> {
+    let fewest = view.len() / 1024;
+    if fewest == 0 {
+        return Ok(());
+    }
+    let (mut x, mut seen) = (1, 0);
+    let start = Instant::now(rt)?;
+    for _ in 0..LOOKUPS {
+        let p = 1 + draw(&mut x) % 511;
+        seen ^= view.select(p, draw(&mut x) % fewest).unwrap_or(0);
+    }
+    tell(rt, "select", start, seen)
+}
+
+/// All places of all numbers: as many steps as there are numbers.
+fn time_places(rt: &(impl Print + Clock), view: &WaveletView<'_>) -> anyhow::Result<()> {
+    let mut seen = 0;
+    let start = Instant::now(rt)?;
+    for p in 1..512 {
+        for found in view.places(p) {
+            seen ^= found;
+        }
+    }
+    let nanos = start.elapsed(rt)?.as_nanos() / u128::from(view.len().max(1));
+    println!(rt; "places {nanos} ns ({seen:x})")?;
+    Ok(())
 }
