@@ -17,6 +17,16 @@ use Rattle.ts_bits.proofs.WordBits.{rank_in_word}
 use Rattle.ts_bits.proofs.Ranks.{digit_of, rank-mono, rank-le, rank_more, rank-le-length, rank_whole, place_is, rank_after_place}
 use Rattle.ts_bits.proofs.Lookups.{Holds, ones_before_is}
 
+-- no bit of a kind stands before the first
+pub kind_none : (kind : Bool) (bits : List Bool) → kind_rank kind bits (512 * 0) ≡ 0
+kind_none true bits = let none = rank-le bits (512 * 0) in omega arith
+kind_none false bits = omega arith
+
+-- where one of a kind stands there are bits
+pub kind_some : (kind : Bool) (bits : List Bool) (n : ℕ) → n < kind_rank kind bits (length bits) → 0 < length bits
+kind_some true bits n some = let most = rank-le bits (length bits) in omega arith
+kind_some false bits n some = omega arith
+
 -- a longer front has no fewer bits of a kind
 pub kind_mono : (kind : Bool) (bits : List Bool) (i j : ℕ) → i ≤ j → kind_rank kind bits i ≤ kind_rank kind bits j
 kind_mono true bits i j h = (rank-mono bits i j h).0
@@ -147,6 +157,28 @@ left_of_kind kind bits len words superblocks counts h n k before word found with
     let next = ap (kind_rank kind bits) e in
     omega (arith, whole, next, found.before_is, found.low, found.high)
 
+-- a word that has more of the kind than are asked for behind those before it
+pub word_in : (kind : Bool) (bits : List Bool) (len : ℕ) (words superblocks counts : List ℕ) → Holds bits len words superblocks counts
+    → (n k before word : ℕ) → k < words_in len → word < 2 ^ 64 → word ≡ number_in 8 words k
+    → before ≡ before_superblock kind superblocks (k / 8) + before_word kind counts k
+    → before ≤ n → n - before < before_place kind word 64 → IsWordOfKind kind bits n k before
+word_in kind bits len words superblocks counts h n k before word within fits is counted low high =
+    let at : word ≡ word_at bits k = is ∙ h.word k within (rw (← is) fits) in
+    let whole = place_kind kind bits word k 64 at (omega arith) in
+    let e : 64 * k + 64 ≡ 64 * (k + 1) = omega arith in
+    let next = ap (kind_rank kind bits) e in
+    let base = word_kind kind bits len words superblocks counts h k (omega (arith, h.len)) in
+    record {
+      before_is = counted ∙ base;
+      low = omega (arith, counted, base, low);
+      high = omega (arith, counted, base, whole, next, low, high);
+    }
+
+-- no more stand before a place than there are places
+pub kind-le : (kind : Bool) (bits : List Bool) (i : ℕ) → kind_rank kind bits i ≤ i
+kind-le true bits i = rank-le bits i
+kind-le false bits i = omega arith
+
 -- and the search in the word finds the bit
 pub bit_of_kind : (kind : Bool) (bits : List Bool) (len : ℕ) (words superblocks counts : List ℕ) → Holds bits len words superblocks counts
     → (n k before word place : ℕ) → n < kind_rank kind bits (length bits) → IsWordOfKind kind bits n k before → k < words_in len → word < 2 ^ 64 → word ≡ number_in 8 words k
@@ -193,6 +225,32 @@ said_brackets kind bits len words superblocks counts h n low high between =
       within = omega (arith, end, within);
       below = omega (arith, superblock_kind kind bits len words superblocks counts h low (omega (arith, end, within, order)), between.below);
       above = λ more. omega (arith, superblock_kind kind bits len words superblocks counts h high more, between.above (omega (arith, end, more)));
+    }
+
+pub held_brackets : (kind : Bool) (bits : List Bool) (len : ℕ) (words superblocks counts : List ℕ) → Holds bits len words superblocks counts
+    → (n low high : ℕ) → Brackets (before_superblock kind superblocks) (superblocks_in len) n low high
+    → Brackets (superblock_rank kind bits) (superblocks_in (length bits)) n low high
+held_brackets kind bits len words superblocks counts h n low high between =
+    let end : superblocks_in (length bits) ≡ superblocks_in len = ap (λ (m : ℕ). superblocks_in m) h.len in
+    let order = between.order in
+    let within = between.within in
+    record {
+      order = order;
+      within = omega (arith, end, within);
+      below = omega (arith, superblock_kind kind bits len words superblocks counts h low (omega (arith, within, order)), between.below);
+      above = λ more. omega (arith, superblock_kind kind bits len words superblocks counts h high (omega (arith, end, more)), between.above (omega (arith, end, more)));
+    }
+
+-- all superblocks, where one of the kind is left
+pub kind_brackets : (kind : Bool) (bits : List Bool) (n : ℕ) → n < kind_rank kind bits (length bits)
+    → Brackets (superblock_rank kind bits) (superblocks_in (length bits)) n 0 (superblocks_in (length bits))
+kind_brackets kind bits n some =
+    let none : kind_rank kind bits (512 * 0) ≡ 0 = kind_none kind bits in
+    record {
+      order = omega (arith, kind_some kind bits n some);
+      within = omega arith;
+      below = omega (arith, none);
+      above = λ less. absurd (omega (arith, less));
     }
 
 -- the lowest digits

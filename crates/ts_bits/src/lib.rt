@@ -4,7 +4,8 @@
 //! - [`BitView`] borrows the bytes of such an array and reads the list in them, with no memory taken: a
 //!   bit by its place (`get`), the ones before a place (`rank1`), both at once (`get_rank`), the next one
 //!   from a place on (`next1`), and the place of a one by the number of ones before it (`select1`), or of
-//!   a one or a zero within a range that holds it (`select1_in`, `select0_in`).
+//!   a one or a zero within a range that holds it (`select1_in`, `select0_in`) or near a place
+//!   (`place_near`).
 //!
 //! # Bytes
 //!
@@ -27,7 +28,8 @@
 //! guesses the superblock by how far `n` is on the way to all ones, goes on from there in steps that
 //! double, and halves what is left; then it counts among the words of one superblock, and within one word
 //! first bytes and then bits. `select1_in` and `select0_in` do the same within the superblocks of their
-//! range. `next1` reads one word, and selects where the word has no one.
+//! range. `place_near` looks into the word of the place that it is given, and then at superblocks in steps
+//! that double from there. `next1` reads one word, and selects where the word has no one.
 #![tactic(auto)]
 
 mod builder;

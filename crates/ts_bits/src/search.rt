@@ -130,6 +130,19 @@ pub(crate) fn superblock_of(
     halve(parts, kind, low, high, n)
 }
 
+/// Superblocks between which `n` is passed, found in steps that double from superblock `near` on.
+pub(crate) fn around(parts: &Parts, kind: bool, near: u64, n: u64) -> (u64, u64)
+    requires near { near < superblocks_in parts.now.len }
+    requires all { Brackets (before_superblock kind parts.now.superblocks.now) (superblocks_in parts.now.len) n 0 (superblocks_in parts.now.len) }
+    ensures { Brackets (before_superblock kind parts.now.superblocks.now) (superblocks_in parts.now.len) n result.0 result.1 }
+{
+    if kind_before_superblock(parts, kind, near) <= n {
+        climb(parts, kind, near, parts.superblock_count(), n)
+    } else {
+        descend(parts, kind, 0, near, n)
+    }
+}
+
 /// The last word of superblock `block` with at most `n` of the kind before it there.
 pub(crate) fn word_of(parts: &Parts, kind: bool, block: u64, n: u64) -> u64
     requires some { 8 * block < words_in parts.now.len }
@@ -175,6 +188,14 @@ fn steps_within(word: u64, kind: bool, from: u64, step: u64, n: u64) -> u64
         }
     }
     steps
+}
+
+/// Those of the kind in a word of 64 bits.
+pub(crate) fn kind_in_word(word: u64, kind: bool) -> u64
+    ensures { result ≡ before_place kind word 64 }
+{
+    let ones = u64::from(word.count_ones());
+    if kind { ones } else { 64 - ones }
 }
 
 /// The place, from the top, of the bit of `word` with exactly `n` of its kind above it: first its byte,

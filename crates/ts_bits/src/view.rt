@@ -9,7 +9,8 @@ ghost use Rattle.ts_bits.specs.BitKinds.{kind_rank, superblock_rank, IsPlaceOfKi
 
 use crate::parts::Parts;
 use crate::search::{
-    kind_before_superblock, kind_before_word, next_in_word, place_in_word, superblock_of, word_of,
+    around, kind_before_superblock, kind_before_word, kind_in_word, next_in_word, place_in_word,
+    superblock_of, word_of,
 };
 use std::marker::Model;
 
@@ -186,5 +187,36 @@ impl<'a> BitView<'a> {
         ensures { IsPlaceOfZero self.now n result }
     {
         self.place_of(false, from / 512, to.div_ceil(512), n)
+    }
+
+    /// The place of the bit of the kind with exactly `n` of its kind before it, or `None` where it is not in
+    /// word `k`.
+    fn place_at(&self, kind: bool, k: u64, n: u64) -> Option<u64>
+        requires within { 64 * k < length self.now }
+        requires some { n < kind_rank kind self.now (length self.now) }
+        ensures { IfSome result (IsPlaceOfKind kind self.now n) }
+    {
+        let word = self.parts.word(k);
+        let block = kind_before_superblock(&self.parts, kind, k / 8);
+        let before = block + kind_before_word(&self.parts, kind, k);
+        if n < before || n - before >= kind_in_word(word, kind) {
+            return None;
+        }
+        Some(64 * k + place_in_word(word, kind, n - before))
+    }
+
+    /// The place of the bit of the kind with exactly `n` of its kind before it, where more than `n` stand. The
+    /// word of place `near` is looked at first, and then the search goes out from there: it is short where
+    /// that is close, and every `near` is right.
+    pub fn place_near(&self, kind: bool, near: u64, n: u64) -> u64
+        requires { n < kind_rank kind self.now (length self.now) }
+        ensures { IsPlaceOfKind kind self.now n result }
+    {
+        let near = near.min(self.parts.len - 1);
+        if let Some(place) = self.place_at(kind, near / 64, n) {
+            return place;
+        }
+        let (low, high) = around(&self.parts, kind, near / 512, n);
+        self.place_of(kind, low, high, n)
     }
 }

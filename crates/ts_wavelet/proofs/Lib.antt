@@ -3,6 +3,7 @@ pub mod Counts
 pub mod Orders
 pub mod Trees
 pub mod Descents
+pub mod Paths
 pub mod Walks
 pub mod Says
 pub mod Widths

@@ -1,7 +1,8 @@
 -- The nodes of a tree: the numbers that agree in their top digits stand side by side on a level, and their bits part them on the next.
-use Rattle.std.specs.Prelude.{◌≡◌, ℕ, zero, suc, ◌+◌, ◌*◌, ◌/◌, ◌^◌, ◌<◌, ◌≤◌, nat_eq, nat_lt, Bool, false, if◌then◌else◌, List, length, take, map, replicate, slice_index, slice_index_or}
+use Rattle.std.specs.Prelude.{◌≡◌, ℕ, zero, suc, ◌+◌, ◌-◌, ◌*◌, ◌/◌, ◌^◌, ◌<◌, ◌≤◌, nat_eq, nat_lt, Bool, false, if◌then◌else◌, List, length, take, map, replicate, slice_index, slice_index_or}
 use Rattle.std.specs.List.{count_by, range_with_len}
 use Rattle.std.specs.Int.{bit_at}
+use Rattle.ts_bits.specs.Rank.{rank}
 use Rattle.ts_wavelet.specs.Sequence.{IsPlaceOf}
 
 -- how many numbers have digits from `shift` on that make less than `top`
@@ -51,3 +52,13 @@ pub record IsSpot (sequence : List ℕ) (shift top start end j place : ℕ) : Ty
 abbrev pub IsOffsetOf : List ℕ → ℕ → ℕ → ℕ → ℕ → Type 0
 IsOffsetOf sequence shift p n offset =
     (j : ℕ) → IsPlaceOf sequence p n j → offset ≡ among sequence shift (p / 2 ^ shift) j
+
+-- where among all bits the part of level l begins whose numbers agree with p in the digits above, and the ones before it
+pub record IsRung (width len : ℕ) (bits : List Bool) (p l start ones : ℕ) : Type 0 where
+  pub begins : start ≡ l * len + lesser (tops_in len bits width) (width - l) (p / 2 ^ (width - l))
+  pub counted : ones ≡ rank bits start
+
+-- the two for each level
+abbrev pub IsPath : ℕ → ℕ → List Bool → ℕ → List ℕ → List ℕ → Type 0
+IsPath width len bits p starts ones =
+    (l : ℕ) → l < width → IsRung width len bits p l (slice_index starts l) (slice_index ones l)

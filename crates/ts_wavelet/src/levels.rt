@@ -1,6 +1,7 @@
 //! The levels of a tree, and the ways down and up through them.
 
 ghost use Rattle.std.specs.Prelude.{◌≡◌, ℕ, List, ◌+◌, ◌-◌, ◌*◌, ◌/◌, ◌%◌, ◌^◌, ◌<◌, ◌≤◌, ◌↔◌, length, slice_get, slice_index, Some, IsTrue, IfNone, IfSome};
+ghost use Rattle.ts_bits.specs.Rank.{rank, ones_between};
 ghost use Rattle.ts_bits.specs.BitKinds.{kind_rank, IsPlaceOfKind};
 ghost use Rattle.ts_wavelet.specs.Sequence.{occurrences, IsPlaceOf};
 ghost use Rattle.ts_wavelet.specs.Nodes.{tops_in, digit_of, IsTree, IsNode, IsSpot, IsOffsetOf};
@@ -45,14 +46,14 @@ impl<'a> Levels<'a> {
     }
 
     /// Whether no number of the tree's width is `p`.
-    fn is_wide(&self, p: u64) -> bool
+    pub(crate) fn is_wide(&self, p: u64) -> bool
         ensures { IsTrue result ↔ (2 ^ self.now.width ≤ p) }
     {
         self.width < 64 && p >> self.width > 0
     }
 
     /// The digit of `p` that level `l` shows.
-    fn digit(&self, p: u64, l: u64) -> bool
+    pub(crate) fn digit(&self, p: u64, l: u64) -> bool
         requires { l < self.now.width }
         ensures { digit_of result ≡ p / 2 ^ (self.now.width - (l + 1)) % 2 }
     {
@@ -60,7 +61,7 @@ impl<'a> Levels<'a> {
     }
 
     /// The whole of the top level, and a place on it.
-    fn top(&self, place: u64) -> Spot
+    pub(crate) fn top(&self, place: u64) -> Spot
         ensures start { result.start ≡ 0 }
         ensures end { result.end ≡ self.now.len }
         ensures place { result.place ≡ place }
@@ -72,21 +73,45 @@ impl<'a> Levels<'a> {
         }
     }
 
-    /// From a part of level `l` to the part of the next that has the numbers with this digit.
-    fn step(&self, l: u64, spot: Spot, digit: bool) -> Spot
+    /// The ones of all levels before place `start` of level `l`.
+    pub(crate) fn ones_before(&self, l: u64, start: u64) -> u64
+        requires level { l < self.now.width }
+        requires within { start ≤ self.now.len }
+        ensures { result ≡ rank self.now.bits (l * self.now.len + start) }
+    {
+        self.bits.rank1(l * self.len + start)
+    }
+
+    /// The ones of level `l` from place `start` up to `end`, where `before` of all levels stand before them.
+    fn ones_in(&self, l: u64, start: u64, end: u64, before: u64) -> u64
+        requires level { l < self.now.width }
+        requires order { start ≤ end }
+        requires within { end ≤ self.now.len }
+        requires before { before ≡ rank self.now.bits (l * self.now.len + start) }
+        ensures { result ≡ ones_between self.now.bits (l * self.now.len + start) (l * self.now.len + end) }
+    {
+        if start == end {
+            0
+        } else {
+            self.bits.rank1(l * self.len + end) - before
+        }
+    }
+
+    /// From a part of level `l`, with `before` ones of all levels before it, to the part of the next that has
+    /// the numbers with this digit.
+    pub(crate) fn step(&self, l: u64, spot: Spot, before: u64, digit: bool) -> Spot
         requires level { l < self.now.width }
         requires after { spot.start ≤ spot.place }
-        requires before { spot.place ≤ spot.end }
+        requires order { spot.place ≤ spot.end }
         requires within { spot.end ≤ self.now.len }
+        requires before { before ≡ rank self.now.bits (l * self.now.len + spot.start) }
         ensures { (sequence : List ℕ) (top j : ℕ) → IsTree self.now.width self.now.bits sequence
             → length sequence ≡ self.now.len
             → IsSpot sequence (self.now.width - l) top spot.start spot.end j spot.place
             → IsSpot sequence (self.now.width - (l + 1)) (2 * top + digit_of digit) result.start result.end j result.place }
     {
-        let base = l * self.len;
-        let before = self.bits.rank1(base + spot.start);
-        let ones = self.bits.rank1(base + spot.end) - before;
-        let ones_here = self.bits.rank1(base + spot.place) - before;
+        let ones = self.ones_in(l, spot.start, spot.end, before);
+        let ones_here = self.ones_in(l, spot.start, spot.place, before);
         let middle = spot.end - ones;
         if digit {
             Spot {
@@ -112,7 +137,8 @@ impl<'a> Levels<'a> {
         let mut number = 0;
         for l in 0..self.width {
             let digit = self.bits.get(l * self.len + spot.place);
-            spot = self.step(l, spot, digit);
+            let before = self.ones_before(l, spot.start);
+            spot = self.step(l, spot, before, digit);
             number = 2 * number + u64::from(digit);
         }
         number
@@ -129,17 +155,19 @@ impl<'a> Levels<'a> {
         let mut spot = self.top(j);
         for l in 0..self.width {
             let digit = self.digit(p, l);
-            spot = self.step(l, spot, digit);
+            let before = self.ones_before(l, spot.start);
+            spot = self.step(l, spot, before, digit);
         }
         spot.place - spot.start
     }
 
-    /// Where within a part of level `l` the bit of the kind `digit` stands that has `inner` of its kind
-    /// before it there.
-    fn back(&self, l: u64, start: u64, end: u64, digit: bool, inner: u64) -> u64
+    /// Where within a part of level `l`, with `before` ones of all levels before it, the bit of the kind
+    /// `digit` stands that has `inner` of its kind before it there.
+    fn back(&self, l: u64, start: u64, end: u64, before: u64, digit: bool, inner: u64) -> u64
         requires level { l < self.now.width }
         requires order { start ≤ end }
         requires within { end ≤ self.now.len }
+        requires before { before ≡ rank self.now.bits (l * self.now.len + start) }
         requires some { kind_rank digit self.now.bits (l * self.now.len + start) + inner
             < kind_rank digit self.now.bits (l * self.now.len + end) }
         ensures { IsPlaceOfKind digit self.now.bits (kind_rank digit self.now.bits (l * self.now.len + start) + inner)
@@ -147,7 +175,6 @@ impl<'a> Levels<'a> {
     {
         let from = l * self.len + start;
         let to = l * self.len + end;
-        let before = self.bits.rank1(from);
         if digit {
             self.bits.select1_in(from, to, before + inner) - from
         } else {
@@ -170,17 +197,15 @@ impl<'a> Levels<'a> {
             return if n < end - start { Some(n) } else { None };
         }
         let digit = self.digit(p, l);
-        let next = self.step(
-            l,
-            Spot {
-                start,
-                end,
-                place: start,
-            },
-            digit,
-        );
+        let before = self.ones_before(l, start);
+        let spot = Spot {
+            start,
+            end,
+            place: start,
+        };
+        let next = self.step(l, spot, before, digit);
         let inner = self.select_from(l + 1, next.start, next.end, p, n)?;
-        Some(self.back(l, start, end, digit, inner))
+        Some(self.back(l, start, end, before, digit, inner))
     }
 
     /// The place of the `p` with exactly `n` p's before it, or `None` where at most `n` stand.

@@ -24,11 +24,13 @@
 //!
 //! # Cost
 //!
-//! `open` goes over the bits once. A lookup goes down the levels, with three ranks on each; `select` and a
-//! walk's step go up again, with a select on each within the bits of the numbers that agree so far.
+//! `open` goes over the bits once. A lookup goes down the levels, with two or three ranks on each; `select`
+//! goes up again, with a select on each within the bits of the numbers that agree so far. A walk goes down
+//! once, when it is made, and keeps the way; a step goes up it, on each level from where the last one was.
 #![tactic(auto)]
 
 mod levels;
+mod path;
 mod places;
 #[cfg(test)]
 mod tests;

@@ -6,20 +6,24 @@ ghost use Rattle.ts_wavelet.specs.Nodes.{tops_in};
 ghost use Rattle.ts_wavelet.specs.Sequence.{places_from};
 
 use crate::levels::Levels;
+use crate::path::Path;
 use std::marker::Model;
 
-/// Goes over the places of a number in a sequence, rising. It takes no memory.
+/// Goes over the places of a number in a sequence, rising. It takes no memory: the number's way through the
+/// levels is found once, and each step goes up it, on each level from the place that the last step found.
 #[derive(Drop)]
 pub struct Places<'a> {
     levels: Levels<'a>,
+    path: Path,
     p: u64,
     from: u64,
     n: u64,
+    count: u64,
 }
 
 impl<'a> Model for Places<'a> {
-    ghost use Rattle.std.specs.Prelude.{◌≡◌, ◌≤◌, ℕ, List};
-    ghost use Rattle.ts_wavelet.specs.Nodes.{tops_in};
+    ghost use Rattle.std.specs.Prelude.{◌≡◌, ◌<◌, ◌≤◌, ℕ, List};
+    ghost use Rattle.ts_wavelet.specs.Nodes.{tops_in, IsPath};
     ghost use Rattle.ts_wavelet.specs.Sequence.{occurrences, places_from};
 
     ghost Value = { List ℕ };
@@ -29,6 +33,8 @@ impl<'a> Model for Places<'a> {
     ghost invariant = { λ w. record {
       within : w.from ≤ w.levels.len;
       passed : w.n ≡ occurrences (tops_in w.levels.len w.levels.bits w.levels.width) w.p w.from;
+      count : w.count ≡ occurrences (tops_in w.levels.len w.levels.bits w.levels.width) w.p w.levels.len;
+      path : 0 < w.count → IsPath w.levels.width w.levels.len w.levels.bits w.p w.path.starts w.path.ones;
     } };
 }
 
@@ -38,8 +44,15 @@ impl<'a> Places<'a> {
         requires { from ≤ levels.len }
         ensures { result ≡ places_from (tops_in levels.entry.len levels.entry.bits levels.entry.width) p from }
     {
-        let n = levels.rank(p, from);
-        Places { levels, p, from, n }
+        let (path, n, count) = levels.path(p, from);
+        Places {
+            levels,
+            path,
+            p,
+            from,
+            n,
+            count,
+        }
     }
 }
 
@@ -51,7 +64,10 @@ impl<'a> Iterator for Places<'a> {
     ghost remaining = { item_count (λ places. places) };
 
     fn next(&mut self) -> Option<u64> {
-        let place = self.levels.select(self.p, self.n)?;
+        if self.n >= self.count {
+            return None;
+        }
+        let place = self.levels.climb(&mut self.path, self.p, self.n);
         self.from = place + 1;
         self.n += 1;
         Some(place)

@@ -49,3 +49,8 @@ returns-clause-some t c =
     let tree = tree_of_bits v.width v.bits v.len v.whole in
     select_back v.width v.bits (tops_in v.len v.bits v.width) tree v.len (v.width - c.args.l) (v.width - (c.args.l + 1)) c.args.l c.args.p c.args.n c.args.start c.args.end c.in_ok-inner.inner c.back.result c.digit-digit.result
     (length-tops v.len v.bits v.width) (omega arith) (omega arith) c.requires.node c.digit-digit.ensures c.in_ok-inner.ensures.some c.back.ensures
+
+pub ones_before-before-requires-clause-within : goal.ones_before-before-requires-clause-within
+ones_before-before-requires-clause-within t c =
+    let v = c.args.self.now in
+    omega (arith, node_end _ _ _ _ _ c.requires.node, c.requires.node.ends, length-tops v.len v.bits v.width)

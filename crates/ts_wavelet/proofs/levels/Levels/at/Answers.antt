@@ -78,3 +78,9 @@ pub returns : goal.returns
 returns c =
     let t = c.args.self.now in
     whole_number (tops_in t.len t.bits t.width) c.args.j (t.width - c.loop-l.l) c.loop-l.number (omega (arith, length-tops t.len t.bits t.width)) (omega arith) c.loop-l.invariant.top
+
+pub ones_before-before-requires-clause-within : goal.ones_before-before-requires-clause-within
+ones_before-before-requires-clause-within c =
+    let t = c.args.self.now in
+    let order = spot_order _ _ _ _ _ _ _ c.loop-l.invariant.spot in
+    omega (arith, length-tops t.len t.bits t.width, order.after, order.before, order.within)

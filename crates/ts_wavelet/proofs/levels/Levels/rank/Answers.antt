@@ -40,3 +40,9 @@ pub returns : goal.returns
 returns c =
     let t = c.args.self.now in
     leaf_count (tops_in t.len t.bits t.width) _ c.args.p _ _ c.args.j _ (omega arith) c.loop-l.invariant
+
+pub ones_before-before-requires-clause-within : goal.ones_before-before-requires-clause-within
+ones_before-before-requires-clause-within c =
+    let t = c.args.self.now in
+    let order = spot_order _ _ _ _ _ _ _ c.loop-l.invariant in
+    omega (arith, length-tops t.len t.bits t.width, order.after, order.before, order.within)
