@@ -1,0 +1,6 @@
+use Rattle.std.proofs.Common.{arith}
+use Rattle.ts_plane.proofs.RowSteps.{continues_iff}
+use Rattle.ts_plane.proofs.rising.continues.Goals as goal
+
+pub returns-then-j-gt0 : goal.returns-then-j-gt0
+returns-then-j-gt0 c = continues_iff c.args.rows.now c.args.j c.is_last.result (omega (arith, c.if-j-gt0.true)) c.is_last.ensures

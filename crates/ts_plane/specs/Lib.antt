@@ -1,0 +1,15 @@
+pub mod Cursors
+pub mod Decoded
+pub mod Fits
+pub mod Groups
+pub mod Kept
+pub mod Lookups
+pub mod Objects
+pub mod Parts
+pub mod Pattern
+pub mod Plane
+pub mod Read
+pub mod Rest
+pub mod Rules
+pub mod Triple
+pub mod Turned

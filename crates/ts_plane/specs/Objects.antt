@@ -1,0 +1,67 @@
+-- The last three sections: the objects, and the places of each object's pairs.
+use Rattle.std.specs.Prelude.{◌≡◌, ℕ, ◌+◌, ◌<◌, ◌≤◌, nat_eq, List, [], length, map, slice_index}
+use Rattle.ts_adjacency.specs.Rows.{row_of}
+use Rattle.ts_adjacency.specs.Adjacency.{Adjacency, edges}
+use Rattle.ts_plane.specs.Groups.{last_marks}
+use Rattle.ts_plane.specs.Turned.{rising_of, turned}
+use Rattle.ts_plane.specs.Parts.{PlaneParts}
+use Rattle.ts_plane.specs.Rules.{ObjectsRule, ObjectPairEndsRule, ObjectPairsRule}
+
+-- x is one of the numbers
+abbrev pub Stands : List ℕ → ℕ → Type 0
+Stands numbers x = (k : ℕ) × (k < length numbers) × (slice_index numbers k ≡ x)
+
+-- each of the numbers is one of the others
+abbrev pub EachStands : List ℕ → List ℕ → Type 0
+EachStands others numbers = (j : ℕ) → j < length numbers → Stands others (slice_index numbers j)
+
+-- an edge of row q has x on its right
+pub record HasEdge (triples : Adjacency) (q x : ℕ) : Type 0 where
+  pub place : ℕ
+  pub within : place < length triples.ends
+  pub row : row_of triples.ends place ≡ q
+  pub right : slice_index triples.rights place ≡ x
+
+-- each place's pair has the object of the place's row
+abbrev pub EachHasEdge : Adjacency → List ℕ → Adjacency → Type 0
+EachHasEdge triples objects by_object =
+    (j : ℕ) → j < length by_object.ends → HasEdge triples (slice_index by_object.rights j) (slice_index objects (row_of by_object.ends j))
+
+-- the objects, and the rows of their pairs, are those of the triples
+pub record AreTurned (objects : List ℕ) (by triples : Adjacency) : Type 0 where
+  pub objects_are : objects ≡ rising_of triples.rights
+  pub ends_are : by.ends ≡ last_marks nat_eq (map (λ edge. edge.0) (turned (edges triples)))
+  pub rights_are : by.rights ≡ map (λ edge. edge.1) (turned (edges triples))
+
+-- the number at place j is above the one before it, where that stands in its row
+abbrev pub RisesThere : Adjacency → ℕ → Type 0
+RisesThere rows j =
+    (k : ℕ) → k + 1 ≡ j → row_of rows.ends k ≡ row_of rows.ends (k + 1) → slice_index rows.rights k < slice_index rows.rights (k + 1)
+
+-- lists of which the last five are these
+abbrev pub with_objects : Adjacency → List ℕ → Adjacency → PlaneParts
+with_objects triples objects by_object = record {
+  subjects = [];
+  pair_ends = [];
+  pair_predicates = [];
+  object_ends = triples.ends;
+  pair_objects = triples.rights;
+  objects = objects;
+  object_pair_ends = by_object.ends;
+  object_pairs = by_object.rights;
+}
+
+-- of the last three sections those before section i keep their rules
+pub record KeepsObjects (objects ends pairs : List ℕ) (parts : PlaneParts) (i : ℕ) : Type 0 where
+  pub objects_keep : 5 < i → ObjectsRule objects parts
+  pub ends_keep : 6 < i → ObjectPairEndsRule ends parts
+  pub pairs_keep : 7 < i → ObjectPairsRule pairs parts
+
+-- of the last three sections, section i is the first that doesn't keep its rule
+pub record IsObjectsFault (objects ends pairs : List ℕ) (triples : Adjacency) (i : ℕ) : Type 0 where
+  pub from : 5 ≤ i
+  pub to : i < 8
+  pub found_objects : List ℕ
+  pub found_rows : Adjacency
+  pub before : KeepsObjects objects ends pairs (with_objects triples found_objects found_rows) i
+  pub fault : (others : PlaneParts) → others.object_ends ≡ triples.ends → others.pair_objects ≡ triples.rights → ¬ KeepsObjects objects ends pairs others (i + 1)
