@@ -22,9 +22,10 @@ fn shown(alloc: Global, line: &[u8]) -> Result<Vec<u8>, Fail> {
     Ok(seen)
 }
 
-/// Lines, and what is shown of each, by the grammar of RDF 1.1 N-Triples and this project's signs.
-const LINES: &[(&str, &str)] = &[
-    // signs and blanks
+// Lines, and what is shown of each, by the grammar of RDF 1.1 N-Triples and this project's signs.
+
+/// Signs, blanks, and lines without a triple.
+const SIGNS: &[(&str, &str)] = &[
     ("<a><p><b>.", "+<a> <p> <b> .\n"),
     ("+<a> <p> <b> .", "+<a> <p> <b> .\n"),
     ("  -  <a><p><b>.", "-<a> <p> <b> .\n"),
@@ -33,12 +34,27 @@ const LINES: &[(&str, &str)] = &[
     ("- - <a> <p> <b> .", "bad"),
     ("+", "bad"),
     (" - # x", "bad"),
-    // nothing
     ("", "nothing"),
     (" \t ", "nothing"),
     ("#", "nothing"),
     ("\t # <a> <p> <b> .", "nothing"),
-    // ends
+    ("<a> <p> <b> .", "+<a> <p> <b> .\n"),
+    ("-<a> <p> <b> .", "-<a> <p> <b> .\n"),
+    ("  -  <a><p><b>.  ", "-<a> <p> <b> .\n"),
+    ("   +   <a>   <p>   <b>   .  ", "+<a> <p> <b> .\n"),
+    ("- + <a> <p> <b> .", "bad"),
+    ("--<a> <p> <b> .", "bad"),
+    (" - ", "bad"),
+    ("+ # x", "bad"),
+    ("+.", "bad"),
+    ("   ", "nothing"),
+    ("# x", "nothing"),
+    ("   # <a> <p> <b> .", "nothing"),
+    ("#<a> <p> <b> .", "nothing"),
+];
+
+/// What stands where in a line, and its end.
+const ENDS: &[(&str, &str)] = &[
     ("<a> <p> <b> . # x", "+<a> <p> <b> .\n"),
     ("<a> <p> <b> .#", "+<a> <p> <b> .\n"),
     ("<a> <p> <b> . x", "bad"),
@@ -49,11 +65,25 @@ const LINES: &[(&str, &str)] = &[
     ("<a> <b> .", "bad"),
     ("<a>", "bad"),
     ("\u{A0}<a> <p> <b> .", "bad"),
-    // what stands where
     ("\"a\" <p> <b> .", "bad"),
     ("<a> _:p <b> .", "bad"),
     ("<a> \"p\" <b> .", "bad"),
-    // labels
+    ("<a> <p> <b> .<c>", "bad"),
+    ("<a> <p> # <b> .", "bad"),
+    ("<a> <p> .", "bad"),
+    ("<a> .", "bad"),
+    (".", "bad"),
+    ("x", "bad"),
+    ("a p b .", "bad"),
+    ("<a> <p> _:b .", "+<a> <p> _:b .\n"),
+    ("<a> <p> <b> .\r", "bad"),
+    ("<a> <p> <b> .\n", "bad"),
+    ("\n", "bad"),
+    ("\u{FEFF}<a> <p> <b> .", "bad"),
+];
+
+/// Labels of blank nodes.
+const LABELS: &[(&str, &str)] = &[
     ("_:b <p> _:b.c.", "+_:b <p> _:b.c .\n"),
     ("<a> <p> _:b.c", "bad"),
     ("_:b.c. <p> <b> .", "bad"),
@@ -64,7 +94,26 @@ const LINES: &[(&str, &str)] = &[
     ("_:.b <p> <b> .", "bad"),
     ("_:-b <p> <b> .", "bad"),
     ("_b <p> <b> .", "bad"),
-    // IRIs
+    ("<é> <😀> \"é😀\".", "+<é> <😀> \"é😀\" .\n"),
+    ("_:é <p> _:😀 .", "+_:é <p> _:😀 .\n"),
+    ("_:× <p> <b> .", "bad"),
+    ("_:b.c <p> _:b .", "+_:b.c <p> _:b .\n"),
+    ("_:b<p>_:b...", "bad"),
+    ("_:b <p> _:b.c", "bad"),
+    ("_:b. <p> <b> .", "bad"),
+    ("_:b..c <p> <b> .", "+_:b..c <p> <b> .\n"),
+    ("_:1 <p> _:b-.", "+_:1 <p> _:b- .\n"),
+    ("_ :b <p> <b> .", "bad"),
+    ("_:_a:b <p> _:: .", "+_:_a:b <p> _:: .\n"),
+    ("_:é <p> _:😀.", "+_:é <p> _:😀 .\n"),
+    ("_:a·‿ <p> <b> .", "+_:a·‿ <p> <b> .\n"),
+    ("_:· <p> <b> .", "bad"),
+    ("_:a× <p> <b> .", "bad"),
+    ("_:a\\u0062 <p> <b> .", "bad"),
+];
+
+/// IRIs.
+const IRIS: &[(&str, &str)] = &[
     ("<> <> <> .", "+<> <> <> .\n"),
     ("<\\u0061> <p\\U00000062> <b> .", "+<a> <pb> <b> .\n"),
     (
@@ -81,7 +130,37 @@ const LINES: &[(&str, &str)] = &[
     ("<a\u{0}> <p> <b> .", "bad"),
     ("<a\\uD800> <p> <b> .", "bad"),
     ("<a> <p> <b .", "bad"),
-    // strings
+    ("<é😀> <p> <%41> .", "+<é😀> <p> <%41> .\n"),
+    (
+        "<\\u0061> <\\u0041> <\\U0001F600\\u00e9> .",
+        "+<a> <A> <😀é> .\n",
+    ),
+    (
+        "<a\\u0020b> <p> <\\u003e\\u003C\\u0022> .",
+        "+<a\\u0020b> <p> <\\u003E\\u003C\\u0022> .\n",
+    ),
+    (
+        "<a> <p> <\\U0000007b\\u005c\\u0000\\u005E\\u0060> .",
+        "+<a> <p> <\\u007B\\u005C\\u0000\\u005E\\u0060> .\n",
+    ),
+    ("<a> <p> <\\n> .", "bad"),
+    ("<a> <p> <\\\\> .", "bad"),
+    ("<a> <p> <\\uD800> .", "bad"),
+    ("<a> <p> <\\U00110000> .", "bad"),
+    ("<a> <p> <\\u004> .", "bad"),
+    ("<a<b> <p> <b> .", "bad"),
+    ("<a{b> <p> <b> .", "bad"),
+    ("<a}b> <p> <b> .", "bad"),
+    ("<a|b> <p> <b> .", "bad"),
+    ("<a^b> <p> <b> .", "bad"),
+    ("<a`b> <p> <b> .", "bad"),
+    ("<a <p> <b> .", "bad"),
+    ("a> <p> <b> .", "bad"),
+    ("<a> <p> <\u{7F}> .", "+<a> <p> <\u{7F}> .\n"),
+];
+
+/// Strings.
+const STRINGS: &[(&str, &str)] = &[
     ("<a> <p> \"\".", "+<a> <p> \"\" .\n"),
     ("<a> <p> \"a\tb'\u{0}\".", "+<a> <p> \"a\tb'\u{0}\" .\n"),
     (
@@ -106,73 +185,6 @@ const LINES: &[(&str, &str)] = &[
     ("<a> <p> \"a\rb\" .", "bad"),
     ("<a> <p> \"a .", "bad"),
     ("<a> <p> \"a\"b .", "bad"),
-    // language tags
-    ("<a> <p> \"a\"@en-US .", "+<a> <p> \"a\"@en-US .\n"),
-    ("<a> <p> \"a\"@EN.", "+<a> <p> \"a\"@EN .\n"),
-    ("<a> <p> \"a\"@en-1a-2.", "+<a> <p> \"a\"@en-1a-2 .\n"),
-    ("<a> <p> \"a\"@en-.", "bad"),
-    ("<a> <p> \"a\"@e1 .", "bad"),
-    ("<a> <p> \"a\"@ .", "bad"),
-    ("<a> <p> \"a\" @en .", "bad"),
-    ("<a> <p> \"a\"@en^^<t> .", "bad"),
-    // types
-    ("<a> <p> \"1\"^^<t>.", "+<a> <p> \"1\"^^<t> .\n"),
-    (
-        "<a> <p> \"1\"^^<http://www.w3.org/2001/XMLSchema#string> .",
-        "+<a> <p> \"1\" .\n",
-    ),
-    (
-        "<a> <p> \"1\"^^<http://www.w3.org/2001/XMLSchema#\\u0073tring> .",
-        "+<a> <p> \"1\" .\n",
-    ),
-    (
-        "<a> <p> \"1\"^^<http://www.w3.org/2001/XMLSchema#strings> .",
-        "+<a> <p> \"1\"^^<http://www.w3.org/2001/XMLSchema#strings> .\n",
-    ),
-    ("<a> <p> \"a\"^^ <t> .", "bad"),
-    ("<a> <p> \"a\" ^^<t> .", "bad"),
-    ("<a> <p> \"a\"^<t> .", "bad"),
-    ("<a> <p> \"a\"^^ .", "bad"),
-    ("<a> <p> \"a\"^^_:t .", "bad"),
-    ("<a> <p> \"a\"^^\"t\" .", "bad"),
-    // characters past ASCII
-    ("<é> <😀> \"é😀\".", "+<é> <😀> \"é😀\" .\n"),
-    ("_:é <p> _:😀 .", "+_:é <p> _:😀 .\n"),
-    ("_:× <p> <b> .", "bad"),
-    // more of each
-    ("<a> <p> <b> .", "+<a> <p> <b> .\n"),
-    ("-<a> <p> <b> .", "-<a> <p> <b> .\n"),
-    ("  -  <a><p><b>.  ", "-<a> <p> <b> .\n"),
-    ("   +   <a>   <p>   <b>   .  ", "+<a> <p> <b> .\n"),
-    ("- + <a> <p> <b> .", "bad"),
-    ("--<a> <p> <b> .", "bad"),
-    (" - ", "bad"),
-    ("+ # x", "bad"),
-    ("+.", "bad"),
-    ("   ", "nothing"),
-    ("# x", "nothing"),
-    ("   # <a> <p> <b> .", "nothing"),
-    ("#<a> <p> <b> .", "nothing"),
-    ("<a> <p> <b> .<c>", "bad"),
-    ("<a> <p> # <b> .", "bad"),
-    ("<a> <p> .", "bad"),
-    ("<a> .", "bad"),
-    (".", "bad"),
-    ("x", "bad"),
-    ("a p b .", "bad"),
-    ("_:b.c <p> _:b .", "+_:b.c <p> _:b .\n"),
-    ("_:b<p>_:b...", "bad"),
-    ("_:b <p> _:b.c", "bad"),
-    ("_:b. <p> <b> .", "bad"),
-    ("_:b..c <p> <b> .", "+_:b..c <p> <b> .\n"),
-    ("_:1 <p> _:b-.", "+_:1 <p> _:b- .\n"),
-    ("_ :b <p> <b> .", "bad"),
-    ("_:_a:b <p> _:: .", "+_:_a:b <p> _:: .\n"),
-    ("_:é <p> _:😀.", "+_:é <p> _:😀 .\n"),
-    ("_:a·‿ <p> <b> .", "+_:a·‿ <p> <b> .\n"),
-    ("_:· <p> <b> .", "bad"),
-    ("_:a× <p> <b> .", "bad"),
-    ("_:a\\u0062 <p> <b> .", "bad"),
     ("<a> <p> \"b\" .", "+<a> <p> \"b\" .\n"),
     (
         "<a> <p> \"it's é 😀 {<>}\"  .",
@@ -205,6 +217,41 @@ const LINES: &[(&str, &str)] = &[
     ("<a> <p> 'a' .", "bad"),
     ("<a> <p> \"\"\"a\"\"\" .", "bad"),
     ("<a> <p> 1 .", "bad"),
+    (
+        "<a> <p> \"\\u0000\\u0009\\u007F\" .",
+        "+<a> <p> \"\u{0}\t\u{7F}\" .\n",
+    ),
+];
+
+/// Language tags and types.
+const LITERALS: &[(&str, &str)] = &[
+    ("<a> <p> \"a\"@en-US .", "+<a> <p> \"a\"@en-US .\n"),
+    ("<a> <p> \"a\"@EN.", "+<a> <p> \"a\"@EN .\n"),
+    ("<a> <p> \"a\"@en-1a-2.", "+<a> <p> \"a\"@en-1a-2 .\n"),
+    ("<a> <p> \"a\"@en-.", "bad"),
+    ("<a> <p> \"a\"@e1 .", "bad"),
+    ("<a> <p> \"a\"@ .", "bad"),
+    ("<a> <p> \"a\" @en .", "bad"),
+    ("<a> <p> \"a\"@en^^<t> .", "bad"),
+    ("<a> <p> \"1\"^^<t>.", "+<a> <p> \"1\"^^<t> .\n"),
+    (
+        "<a> <p> \"1\"^^<http://www.w3.org/2001/XMLSchema#string> .",
+        "+<a> <p> \"1\" .\n",
+    ),
+    (
+        "<a> <p> \"1\"^^<http://www.w3.org/2001/XMLSchema#\\u0073tring> .",
+        "+<a> <p> \"1\" .\n",
+    ),
+    (
+        "<a> <p> \"1\"^^<http://www.w3.org/2001/XMLSchema#strings> .",
+        "+<a> <p> \"1\"^^<http://www.w3.org/2001/XMLSchema#strings> .\n",
+    ),
+    ("<a> <p> \"a\"^^ <t> .", "bad"),
+    ("<a> <p> \"a\" ^^<t> .", "bad"),
+    ("<a> <p> \"a\"^<t> .", "bad"),
+    ("<a> <p> \"a\"^^ .", "bad"),
+    ("<a> <p> \"a\"^^_:t .", "bad"),
+    ("<a> <p> \"a\"^^\"t\" .", "bad"),
     ("<a> <p> \"a\"@de-CH-1996.", "+<a> <p> \"a\"@de-CH-1996 .\n"),
     ("<a> <p> \"a\"@en--US .", "bad"),
     ("<a> <p> \"a\"@1 .", "bad"),
@@ -229,50 +276,52 @@ const LINES: &[(&str, &str)] = &[
         "+<a> <p> \"a\"^^<a\\u0020> .\n",
     ),
     ("<a> <p> \"a\"^^<t>@en .", "bad"),
-    ("<é😀> <p> <%41> .", "+<é😀> <p> <%41> .\n"),
-    (
-        "<\\u0061> <\\u0041> <\\U0001F600\\u00e9> .",
-        "+<a> <A> <😀é> .\n",
-    ),
-    (
-        "<a\\u0020b> <p> <\\u003e\\u003C\\u0022> .",
-        "+<a\\u0020b> <p> <\\u003E\\u003C\\u0022> .\n",
-    ),
-    (
-        "<a> <p> <\\U0000007b\\u005c\\u0000\\u005E\\u0060> .",
-        "+<a> <p> <\\u007B\\u005C\\u0000\\u005E\\u0060> .\n",
-    ),
-    ("<a> <p> <\\n> .", "bad"),
-    ("<a> <p> <\\\\> .", "bad"),
-    ("<a> <p> <\\uD800> .", "bad"),
-    ("<a> <p> <\\U00110000> .", "bad"),
-    ("<a> <p> <\\u004> .", "bad"),
-    ("<a<b> <p> <b> .", "bad"),
-    ("<a{b> <p> <b> .", "bad"),
-    ("<a}b> <p> <b> .", "bad"),
-    ("<a|b> <p> <b> .", "bad"),
-    ("<a^b> <p> <b> .", "bad"),
-    ("<a`b> <p> <b> .", "bad"),
-    ("<a <p> <b> .", "bad"),
-    ("a> <p> <b> .", "bad"),
-    ("<a> <p> _:b .", "+<a> <p> _:b .\n"),
-    ("<a> <p> <b> .\r", "bad"),
-    ("<a> <p> <b> .\n", "bad"),
-    ("\n", "bad"),
-    (
-        "<a> <p> \"\\u0000\\u0009\\u007F\" .",
-        "+<a> <p> \"\u{0}\t\u{7F}\" .\n",
-    ),
-    ("<a> <p> <\u{7F}> .", "+<a> <p> <\u{7F}> .\n"),
-    ("\u{FEFF}<a> <p> <b> .", "bad"),
 ];
 
-#[test]
-fn lines_of_text(rt: HostRuntime) -> Result<(), Fail> {
-    for (line, want) in LINES {
-        let seen = shown(rt.alloc(), line.as_bytes())?;
-        assert_eq!(rt; seen.as_slice(), want.as_bytes(), "at {line}");
+/// The first of these lines that is shown otherwise.
+fn first_wrong<'a>(alloc: Global, lines: &[(&'a str, &'a str)]) -> Result<Option<&'a str>, Fail> {
+    for (line, want) in lines {
+        let seen = shown(alloc, line.as_bytes())?;
+        if seen.as_slice() != want.as_bytes() {
+            return Ok(Some(line));
+        }
     }
+    Ok(None)
+}
+
+#[test]
+fn signs_and_blanks(rt: HostRuntime) -> Result<(), Fail> {
+    assert_eq!(rt; first_wrong(rt.alloc(), SIGNS)?, None);
+    Ok(())
+}
+
+#[test]
+fn ends_of_lines(rt: HostRuntime) -> Result<(), Fail> {
+    assert_eq!(rt; first_wrong(rt.alloc(), ENDS)?, None);
+    Ok(())
+}
+
+#[test]
+fn labels(rt: HostRuntime) -> Result<(), Fail> {
+    assert_eq!(rt; first_wrong(rt.alloc(), LABELS)?, None);
+    Ok(())
+}
+
+#[test]
+fn iris(rt: HostRuntime) -> Result<(), Fail> {
+    assert_eq!(rt; first_wrong(rt.alloc(), IRIS)?, None);
+    Ok(())
+}
+
+#[test]
+fn strings(rt: HostRuntime) -> Result<(), Fail> {
+    assert_eq!(rt; first_wrong(rt.alloc(), STRINGS)?, None);
+    Ok(())
+}
+
+#[test]
+fn language_tags_and_types(rt: HostRuntime) -> Result<(), Fail> {
+    assert_eq!(rt; first_wrong(rt.alloc(), LITERALS)?, None);
     Ok(())
 }
 
@@ -387,6 +436,11 @@ fn terms_of_each_kind(rt: HostRuntime) -> Result<(), Fail> {
         let seen = term(rt.alloc(), bytes.as_bytes(), kind)?;
         assert_eq!(rt; seen.as_slice(), want.as_bytes(), "at {bytes}");
     }
+    Ok(())
+}
+
+#[test]
+fn no_text_and_long_terms_are_none(rt: HostRuntime) -> Result<(), Fail> {
     let noise = term(rt.alloc(), b"\"\xff\"", TermKind::Value)?;
     assert_eq!(rt; noise.as_slice(), b"none".as_slice());
     let long = long_line(rt.alloc(), b"<", 1_048_576, b">")?;
