@@ -1,10 +1,10 @@
 -- Words and the lines behind them are one command, or none.
 use Rattle.std.proofs.Common.{◌≡◌, ℕ, List, All, sym, ◌∙◌, ap, subst, refl}
-use Rattle.std.specs.Prelude.{Result, Ok, Err}
+use Rattle.std.specs.Prelude.{Option, Some, None, Result, Ok, Err}
 use Rattle.ts_model.specs.declared.signed.SignedTriple.{SignedTriple}
 use Rattle.ts_model.specs.TextTriple.{IsTriple}
 use Rattle.ts_script.specs.Body.{IsBodyRead}
-use Rattle.ts_script.specs.Heads.{Name, base, list, has, IsHeadOf}
+use Rattle.ts_script.specs.Heads.{Name, base, commit, list, has, added, removed, layers, squash, IsHeadOf}
 use Rattle.ts_script.specs.Commands.{completed, IsCompleted, IsCommand, IsNoCommand}
 use Rattle.ts_script.specs.declared.body.BodyFault.{BodyFault}
 use Rattle.ts_script.specs.declared.body.BodyFault.TheVariants.{Bad, TooLong}
@@ -12,6 +12,8 @@ use Rattle.ts_script.specs.declared.command.Command.{Command}
 use Rattle.ts_script.specs.declared.command.Command.TheVariants as command
 use Rattle.ts_script.specs.declared.head.Head.{Head}
 use Rattle.ts_script.specs.declared.head.Head.TheVariants.{Whole, Awaits}
+use Rattle.ts_script.specs.declared.command.Ref.{Ref}
+use Rattle.ts_script.specs.declared.opening.Opening.{Opening}
 use Rattle.ts_script.specs.declared.opening.Opening.TheVariants as opening
 use Rattle.ts_script.proofs.HeadLaws.{head_once}
 use Rattle.ts_script.proofs.BodyLaws.{read_once, some_read, spelled_triples}
@@ -35,18 +37,58 @@ some_command words before lines none (Awaits opening) is =
 
 -- ---- triples
 
--- a command whose words are all of it has no body
-no_body : (name : Name) (behind : List (List ℕ)) (whole : Command) (body : List SignedTriple) → IsHeadOf name behind (Whole whole) → command.Base body ≡ whole → ⊥
-no_body base behind whole body says same = let e = says.1 in cc
-no_body list behind whole body (word, at, are, is, says) same = cc
-no_body has behind whole body (word, s, p, o, at, triple, are, is, spell, says) same = cc
+body_in : Command → Option (List SignedTriple)
+body_in (command.Base body) = Some body
+body_in (command.Commit at body) = Some body
+body_in (command.BadTriple line) = None
+body_in (command.TooLong line) = None
+body_in (command.Listing at pattern) = None
+body_in (command.Has at triple) = None
+body_in (command.Added layer) = None
+body_in (command.Removed layer) = None
+body_in command.Layers = None
+body_in (command.Squash at) = None
 
-body_of_base : (before : ℕ) (lines : List (List ℕ)) (body : List SignedTriple) (read : Result (List SignedTriple) BodyFault) → IsBodyRead before lines read → command.Base body ≡ completed opening.Base read → IsBodyRead before lines (Ok body)
-body_of_base before lines body (Ok read) is same = let bodies : read ≡ body = cc in subst (λ (b : List SignedTriple). IsBodyRead before lines (Ok b)) bodies is
-body_of_base before lines body (Err (Bad line)) is same = absurd (cc)
-body_of_base before lines body (Err (TooLong line)) is same = absurd (cc)
+body_in_whole : Head → Option (List SignedTriple)
+body_in_whole (Whole whole) = body_in whole
+body_in_whole (Awaits opening) = None
+
+-- a command whose words are all of it has no body
+no_body : (name : Name) (behind : List (List ℕ)) (whole : Command) → IsHeadOf name behind (Whole whole) → body_in whole ≡ None
+unfolding body_in body_in_whole
+no_body base behind whole says = ap body_in_whole says.1
+no_body commit behind whole says = ap body_in_whole says.4
+no_body list behind whole says = ap body_in_whole says.4
+no_body has behind whole says = ap body_in_whole says.9
+no_body added behind whole says = ap body_in_whole says.4
+no_body removed behind whole says = ap body_in_whole says.4
+no_body layers behind whole says = ap body_in_whole says.1
+no_body squash behind whole says = ap body_in_whole says.4
+
+body_in_completed : (opening : Opening) (body : List SignedTriple) → body_in (completed opening (Ok body)) ≡ Some body
+unfolding body_in
+body_in_completed opening.Base body = refl
+body_in_completed (opening.Commit at) body = refl
+
+body_read : (before : ℕ) (lines : List (List ℕ)) (opening : Opening) (body : List SignedTriple) (read : Result (List SignedTriple) BodyFault)
+    → IsBodyRead before lines read → body_in (completed opening read) ≡ Some body → IsBodyRead before lines (Ok body)
+unfolding body_in
+body_read before lines opening body (Ok read) is same =
+    let bodies : read ≡ body = cc (body_in_completed opening read, same) in subst (λ (b : List SignedTriple). IsBodyRead before lines (Ok b)) bodies is
+body_read before lines opening body (Err (Bad line)) is same = absurd (cc)
+body_read before lines opening body (Err (TooLong line)) is same = absurd (cc)
+
+triples_in : (words : List (List ℕ)) (before : ℕ) (lines : List (List ℕ)) (asked : Command) (body : List SignedTriple) → IsCommand words before lines asked → body_in asked ≡ Some body
+    → All (λ (line : SignedTriple). IsTriple line.triple) body
+triples_in words before lines asked body (Whole whole, is, same) has_it =
+    let none : None ≡ Some body = sym (no_body is.name is.behind whole is.says) ∙ sym (ap body_in same) ∙ has_it in absurd (cc)
+triples_in words before lines asked body (Awaits opening, is, done) has_it =
+    spelled_triples lines body (body_read before lines opening body done.0 done.1 (sym (ap body_in done.2) ∙ has_it))
 
 pub body_of_triples : (words : List (List ℕ)) (before : ℕ) (lines : List (List ℕ)) (body : List SignedTriple) → IsCommand words before lines (command.Base body) → All (λ (line : SignedTriple). IsTriple line.triple) body
-body_of_triples words before lines body (Whole whole, is, same) = absurd (no_body is.name is.behind whole body is.says same)
-body_of_triples words before lines body (Awaits opening.Base, is, done) =
-    spelled_triples lines body (body_of_base before lines body done.0 done.1 done.2)
+unfolding body_in
+body_of_triples words before lines body is = triples_in words before lines (command.Base body) body is refl
+
+pub commit_of_triples : (words : List (List ℕ)) (before : ℕ) (lines : List (List ℕ)) (at : Ref) (body : List SignedTriple) → IsCommand words before lines (command.Commit at body) → All (λ (line : SignedTriple). IsTriple line.triple) body
+unfolding body_in
+commit_of_triples words before lines at body is = triples_in words before lines (command.Commit at body) body is refl

@@ -14,14 +14,15 @@ use Rattle.ts_nt.specs.Terms.{TermAt}
 use Rattle.ts_nt.proofs.TermLaws.{term_once}
 use Rattle.ts_nt.proofs.TripleLaws.{kind_once}
 use Rattle.ts_script.specs.Words.{IsLayerWord, IsRefWord, IsTermWord, SpellTriple, unbound}
-use Rattle.ts_script.specs.Heads.{Name, base, list, has, name_word, IsHeadOf, IsHead}
+use Rattle.ts_script.specs.Heads.{Name, base, commit, list, has, added, removed, layers, squash, name_word, IsOfRef, IsOfLayer, IsHeadOf, IsHead}
 use Rattle.ts_script.specs.declared.head.Head.{Head}
-use Rattle.ts_script.specs.declared.head.Head.TheVariants.{Whole}
+use Rattle.ts_script.specs.declared.head.Head.TheVariants.{Whole, Awaits}
 use Rattle.ts_script.specs.declared.command.LayerRef.{LayerRef}
 use Rattle.ts_script.specs.declared.command.LayerRef.TheVariants.{Number, Last}
 use Rattle.ts_script.specs.declared.command.Ref.{Ref}
 use Rattle.ts_script.specs.declared.command.Ref.TheVariants.{Layer}
 use Rattle.ts_script.specs.declared.command.Command.TheVariants as command
+use Rattle.ts_script.specs.declared.opening.Opening.TheVariants as opening
 
 -- ---- layers
 
@@ -68,22 +69,46 @@ triple_once s p o a b one other =
 -- ---- names
 
 name_of : List ℕ → Name
-name_of word = if bytes_eq word (codes "base") then base else if bytes_eq word (codes "list") then list else has
+name_of word =
+    if bytes_eq word (codes "base") then base else
+    if bytes_eq word (codes "commit") then commit else
+    if bytes_eq word (codes "list") then list else
+    if bytes_eq word (codes "has") then has else
+    if bytes_eq word (codes "added") then added else
+    if bytes_eq word (codes "removed") then removed else
+    if bytes_eq word (codes "layers") then layers else squash
 
 named : (name : Name) → name_of (name_word name) ≡ name
 unfolding name_of
 named base = refl
+named commit = refl
 named list = refl
 named has = refl
+named added = refl
+named removed = refl
+named layers = refl
+named squash = refl
 
 -- ---- heads
 
+of_ref_once : (make : Ref → Head) (behind : List (List ℕ)) (a b : Head) → IsOfRef make behind a → IsOfRef make behind b → a ≡ b
+of_ref_once make behind a b (word, at, are, is, says) (word', at', are', is', says') =
+    let same : word' ≡ word = ap (λ (ws : List (List ℕ)). get_or ws 0 []) (sym are' ∙ are) in
+    says ∙ ap make (ref_once word at at' is (subst (λ w. IsRefWord w at') same is')) ∙ sym says'
+
+of_layer_once : (make : LayerRef → Head) (behind : List (List ℕ)) (a b : Head) → IsOfLayer make behind a → IsOfLayer make behind b → a ≡ b
+of_layer_once make behind a b (word, layer, are, is, says) (word', layer', are', is', says') =
+    let same : word' ≡ word = ap (λ (ws : List (List ℕ)). get_or ws 0 []) (sym are' ∙ are) in
+    says ∙ ap make (layer_once word layer layer' is (subst (λ w. IsLayerWord w layer') same is')) ∙ sym says'
+
 head_of_once : (name : Name) (behind : List (List ℕ)) (a b : Head) → IsHeadOf name behind a → IsHeadOf name behind b → a ≡ b
 head_of_once base behind a b one other = one.1 ∙ sym other.1
-head_of_once list behind a b (word, at, are, is, says) (word', at', are', is', says') =
-    let same : word' ≡ word = ap (λ (ws : List (List ℕ)). get_or ws 0 []) (sym are' ∙ are) in
-    let ats = ref_once word at at' is (subst (λ w. IsRefWord w at') same is') in
-    says ∙ ap (λ (at : Ref). Whole (command.Listing at unbound)) ats ∙ sym says'
+head_of_once commit behind a b one other = of_ref_once (λ at. Awaits (opening.Commit at)) behind a b one other
+head_of_once list behind a b one other = of_ref_once (λ at. Whole (command.Listing at unbound)) behind a b one other
+head_of_once added behind a b one other = of_layer_once (λ layer. Whole (command.Added layer)) behind a b one other
+head_of_once removed behind a b one other = of_layer_once (λ layer. Whole (command.Removed layer)) behind a b one other
+head_of_once layers behind a b one other = one.1 ∙ sym other.1
+head_of_once squash behind a b one other = of_ref_once (λ at. Whole (command.Squash at)) behind a b one other
 head_of_once has behind a b (word, s, p, o, at, triple, are, is, spell, says) (word', s', p', o', at', triple', are', is', spell', says') =
     let same = sym are' ∙ are in
     let word-same : word' ≡ word = ap (λ (ws : List (List ℕ)). get_or ws 0 []) same in

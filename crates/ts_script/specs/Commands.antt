@@ -19,6 +19,7 @@ abbrev pub completed : Opening → Result (List SignedTriple) BodyFault → Comm
 completed opening (Err (Bad line)) = command.BadTriple line
 completed opening (Err (TooLong line)) = command.TooLong line
 completed opening.Base (Ok body) = command.Base body
+completed (opening.Commit at) (Ok body) = command.Commit at body
 
 -- The command of a head: what the words say, or what the lines behind them complete. Before these lines `before` lines of the input
 -- stand.

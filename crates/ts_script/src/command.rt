@@ -63,8 +63,18 @@ pub enum Command {
     TooLong { line: u64 },
     /// Makes a layer that stands alone.
     Base { body: Body },
+    /// Makes a child of a layer.
+    Commit { at: Ref, body: Body },
     /// Lists the triples of a layer that fit, in birth order.
     Listing { at: Ref, pattern: Pattern },
     /// Tells whether a layer has a triple.
     Has { at: Ref, triple: Triple },
+    /// Lists the triples that a layer adds to its parent, in birth order at it.
+    Added { layer: LayerRef },
+    /// Lists the triples of its parent that a layer removes, in birth order at it.
+    Removed { layer: LayerRef },
+    /// Lists the layers with their parents, rising.
+    Layers,
+    /// Makes a layer that stands alone, with the triples of a layer.
+    Squash { at: Ref },
 }

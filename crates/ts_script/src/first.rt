@@ -18,7 +18,8 @@ use ts_site::Source;
 const MOST_WORDS: usize = 5;
 
 /// The command of these words, with the rest of the input as its body where it has one. None exactly where the
-/// words are no command. Only `base` reads the input, to its end; other words touch neither the input nor the cutter.
+/// words are no command. Only `base` and `commit` read the input, to its end; other words touch neither the input nor
+/// the cutter.
 pub fn first_command<S: Source>(
     alloc: Global,
     words: &[String],

@@ -5,7 +5,7 @@ ghost use Rattle.ts_script.specs.Heads as heads;
 ghost use Rattle.ts_script.specs.Words.{IsRefWord, texts};
 
 use crate::opening::Opening;
-use crate::words::{read_ref, read_triple};
+use crate::words::{read_layer, read_ref, read_triple};
 use crate::{Command, Ref};
 use std::alloc::{AllocError, Global};
 use ts_model::Pattern;
@@ -25,10 +25,24 @@ pub(crate) fn head_of(alloc: Global, words: &[&str]) -> Result<Option<Head>, All
 {
     match *words {
         ["base"] => Ok(Some(Head::Awaits(Opening::Base))),
+        ["commit", at] => Ok(commit(at)),
         ["list", at] => Ok(listing(at)),
         ["has", at, subject, predicate, object] => has(alloc, at, subject, predicate, object),
+        ["added", layer] => Ok(added(layer)),
+        ["removed", layer] => Ok(removed(layer)),
+        ["layers"] => Ok(Some(Head::Whole(Command::Layers))),
+        ["squash", at] => Ok(squash(at)),
         _ => Ok(None),
     }
+}
+
+/// What `commit` and a word say.
+fn commit(at: &str) -> Option<Head>
+    ensures some { IfSome result (IsHeadOf heads.commit (at.now ∷ [])) }
+    ensures none { IfNone result ((head : Head) → IsHeadOf heads.commit (at.now ∷ []) head → ⊥) }
+{
+    let at = read_ref(at)?;
+    Some(Head::Awaits(Opening::Commit { at }))
 }
 
 /// What `list` and a word say.
@@ -66,4 +80,31 @@ fn has(
         return Ok(None);
     };
     Ok(Some(Head::Whole(Command::Has { at, triple })))
+}
+
+/// What `added` and a word say.
+fn added(layer: &str) -> Option<Head>
+    ensures some { IfSome result (IsHeadOf heads.added (layer.now ∷ [])) }
+    ensures none { IfNone result ((head : Head) → IsHeadOf heads.added (layer.now ∷ []) head → ⊥) }
+{
+    let layer = read_layer(layer)?;
+    Some(Head::Whole(Command::Added { layer }))
+}
+
+/// What `removed` and a word say.
+fn removed(layer: &str) -> Option<Head>
+    ensures some { IfSome result (IsHeadOf heads.removed (layer.now ∷ [])) }
+    ensures none { IfNone result ((head : Head) → IsHeadOf heads.removed (layer.now ∷ []) head → ⊥) }
+{
+    let layer = read_layer(layer)?;
+    Some(Head::Whole(Command::Removed { layer }))
+}
+
+/// What `squash` and a word say.
+fn squash(at: &str) -> Option<Head>
+    ensures some { IfSome result (IsHeadOf heads.squash (at.now ∷ [])) }
+    ensures none { IfNone result ((head : Head) → IsHeadOf heads.squash (at.now ∷ []) head → ⊥) }
+{
+    let at = read_ref(at)?;
+    Some(Head::Whole(Command::Squash { at }))
 }

@@ -3,12 +3,13 @@ ghost use Rattle.std.specs.Prelude.{◌≡◌};
 ghost use Rattle.ts_script.specs.Commands.{completed};
 
 use crate::body::BodyFault;
-use crate::{Body, Command};
+use crate::{Body, Command, Ref};
 
 /// A command that waits for its body.
 #[derive(Clone, Copy, Debug)]
 pub(crate) enum Opening {
     Base,
+    Commit { at: Ref },
 }
 
 impl Opening {
@@ -28,6 +29,7 @@ impl Opening {
     {
         match self {
             Opening::Base => Command::Base { body },
+            Opening::Commit { at } => Command::Commit { at, body },
         }
     }
 }

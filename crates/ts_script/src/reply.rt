@@ -15,6 +15,8 @@ const ROOM: usize = 256;
 pub enum Reply {
     /// A layer was made.
     Layer(u32),
+    /// A layer stands, with its parent where it has one.
+    LayerParent(u32, Option<u32>),
     /// So many lines were listed.
     Total(u128),
     Yes,
@@ -46,6 +48,16 @@ pub fn reply_line(reply: &Reply) -> ReplyLine
             .with(b"layer ")
             .with(&layer_text(*number))
             .with(b"\n"),
+        Reply::LayerParent(number, parent) => {
+            let line = ReplyLine::new()
+                .with(b"layer ")
+                .with(&layer_text(*number))
+                .with(b" parent ");
+            match parent {
+                Some(parent) => line.with(&layer_text(*parent)).with(b"\n"),
+                None => line.with(b"none\n"),
+            }
+        }
         Reply::Total(count) => {
             let mut buffer = Buffer::new();
             ReplyLine::new()

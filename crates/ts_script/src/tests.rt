@@ -1,7 +1,7 @@
 use super::*;
 use std::alloc::Global;
 use std::test::Fail;
-use ts_model::{Pattern, TermKind};
+use ts_model::{Pattern, TermKind, Triple};
 use ts_site::MemorySource;
 
 /// The words of a text, between single blanks.
@@ -50,27 +50,23 @@ fn lines(alloc: Global, text: &[u8], limit: u64) -> Result<String, Fail> {
 
 #[test]
 fn the_limit_stops_within_a_line(rt: HostRuntime) -> Result<(), Fail> {
-    let alloc = rt.alloc();
-    assert_eq!(rt;
-        lines(alloc, b"abc\nabcdefgh\n", 10)?.as_str(),
-        "1:abc|limit"
-    );
-    assert_eq!(rt;
-        lines(alloc, b"abc\nabcdefgh\n", 100)?.as_str(),
-        "1:abc|2:abcdefgh|end"
-    );
+    for (limit, wanted) in [(10, "1:abc|limit"), (100, "1:abc|2:abcdefgh|end")] {
+        let cut = lines(rt.alloc(), b"abc\nabcdefgh\n", limit)?;
+        assert_eq!(rt; cut.as_str(), wanted);
+    }
     Ok(())
 }
 
 #[test]
 fn each_end_of_a_line_is_one(rt: HostRuntime) -> Result<(), Fail> {
-    let alloc = rt.alloc();
-    assert_eq!(rt;
-        lines(alloc, b"a\r\nb\rc\n\r\n\nd", 100)?.as_str(),
-        "1:a|2:b|3:c|4:|5:|6:d|end"
-    );
-    assert_eq!(rt; lines(alloc, b"a\r", 100)?.as_str(), "1:a|end");
-    assert_eq!(rt; lines(alloc, b"", 100)?.as_str(), "end");
+    for (text, wanted) in [
+        ("a\r\nb\rc\n\r\n\nd", "1:a|2:b|3:c|4:|5:|6:d|end"),
+        ("a\r", "1:a|end"),
+        ("", "end"),
+    ] {
+        let cut = lines(rt.alloc(), text.as_bytes(), 100)?;
+        assert_eq!(rt; cut.as_str(), wanted);
+    }
     Ok(())
 }
 
@@ -122,57 +118,127 @@ fn a_line_comes_whole_after_a_fault(rt: HostRuntime) -> Result<(), Fail> {
 }
 
 #[test]
-fn words_ask_for_a_list(rt: HostRuntime) -> Result<(), Fail> {
-    let alloc = rt.alloc();
-    assert!(rt;
-        matches!(
-            asked(alloc, "list 00000001")?,
-            Some(Command::Listing {
-                at: Ref::Layer(LayerRef::Number(1)),
+fn other_words_ask_for_nothing(rt: HostRuntime) -> Result<(), Fail> {
+    for text in [
+        "list 0000000A",
+        "list",
+        "list 00000001 x",
+        "has 00000001 <a> <p> b",
+        "has 00000001 \"a\" <p> <b>",
+        "has 00000001 <a> _:p <b>",
+        "has 00000001 <a> <p> ",
+    ] {
+        assert!(rt; asked(rt.alloc(), text)?.is_none(), "{text}");
+    }
+    Ok(())
+}
+
+/// The layer whose triples words ask for, all of them.
+fn listed(alloc: Global, text: &str) -> Result<Option<LayerRef>, Fail> {
+    match asked(alloc, text)? {
+        Some(
+            Command::Listing {
+                at: Ref::Layer(at),
                 pattern: Pattern {
                     subject: None,
                     predicate: None,
-                    object: None
-                }
-            })
-        )
-    );
+                    object: None,
+                },
+            },
+        ) => Ok(Some(at)),
+        _ => Ok(None),
+    }
+}
+
+#[test]
+fn words_ask_for_a_list(rt: HostRuntime) -> Result<(), Fail> {
     assert!(rt;
         matches!(
-            asked(alloc, "list last")?,
-            Some(Command::Listing {
-                at: Ref::Layer(LayerRef::Last),
-                ..
-            })
+            listed(rt.alloc(), "list 00000001")?,
+            Some(LayerRef::Number(1))
         )
     );
-    assert!(rt; asked(alloc, "list 0000000A")?.is_none());
-    assert!(rt; asked(alloc, "list")?.is_none());
-    assert!(rt; asked(alloc, "list 00000001 x")?.is_none());
+    assert!(rt; matches!(listed(rt.alloc(), "list last")?, Some(LayerRef::Last)));
     Ok(())
+}
+
+/// The layer that words ask whether it has a triple, and the triple.
+fn triple_asked(alloc: Global, text: &str) -> Result<(LayerRef, Triple), Fail> {
+    match asked(alloc, text)? {
+        Some(
+            Command::Has {
+                at: Ref::Layer(at),
+                triple,
+            },
+        ) => Ok((at, triple)),
+        _ => Err("no has")?,
+    }
 }
 
 #[test]
 fn words_ask_whether_a_layer_has_a_triple(rt: HostRuntime) -> Result<(), Fail> {
+    let (at, triple) = triple_asked(rt.alloc(), "has 00000001 <\\u0061> <p> \"b\"@en")?;
+    assert!(rt; matches!(at, LayerRef::Number(1)));
+    assert_eq!(rt; triple.subject().spelling(), b"<a>".as_slice());
+    assert_eq!(rt; triple.predicate().spelling(), b"<p>".as_slice());
+    assert_eq!(rt; triple.object().spelling(), b"\"b\"@en".as_slice());
+    assert_eq!(rt; triple.object().kind(), TermKind::Value);
+    Ok(())
+}
+
+#[test]
+fn words_ask_for_a_commit(rt: HostRuntime) -> Result<(), Fail> {
     let alloc = rt.alloc();
-    match asked(alloc, "has 00000001 <\\u0061> <p> \"b\"@en")? {
-        Some(
-            Command::Has {
-                at: Ref::Layer(LayerRef::Number(1)),
-                triple,
-            },
-        ) => {
-            assert_eq!(rt; triple.subject().spelling(), b"<a>".as_slice());
-            assert_eq!(rt; triple.predicate().spelling(), b"<p>".as_slice());
-            assert_eq!(rt; triple.object().spelling(), b"\"b\"@en".as_slice());
-            assert_eq!(rt; triple.object().kind(), TermKind::Value);
-        }
-        _ => return Err("no has")?,
+    let mut input = MemorySource::new(alloc, b"-<a> <p> <b> .\n")?;
+    let mut cutter = LineCutter::new(alloc, 1 << 40)?;
+    let words = words_of(alloc, "commit 00000007")?;
+    match first_command(alloc, &words, &mut cutter, &mut input) {
+        Ok(
+            Some(
+                Command::Commit {
+                    at: Ref::Layer(LayerRef::Number(7)),
+                    body,
+                },
+            ),
+        ) => assert_eq!(rt; body.signed().len(), 1),
+        _ => return Err("no commit")?,
     }
-    assert!(rt; asked(alloc, "has 00000001 <a> <p> b")?.is_none());
-    assert!(rt; asked(alloc, "has 00000001 \"a\" <p> <b>")?.is_none());
-    assert!(rt; asked(alloc, "has 00000001 <a> _:p <b>")?.is_none());
-    assert!(rt; asked(alloc, "has 00000001 <a> <p> ")?.is_none());
+    Ok(())
+}
+
+/// What the words of a text ask for, in short.
+fn asked_in_short(alloc: Global, text: &str) -> Result<&'static str, Fail> {
+    match asked(alloc, text)? {
+        Some(
+            Command::Added {
+                layer: LayerRef::Number(2),
+            },
+        ) => Ok("added 2"),
+        Some(
+            Command::Removed {
+                layer: LayerRef::Last,
+            },
+        ) => Ok("removed last"),
+        Some(Command::Layers) => Ok("layers"),
+        Some(
+            Command::Squash {
+                at: Ref::Layer(LayerRef::Number(3)),
+            },
+        ) => Ok("squash 3"),
+        Some(_) => Ok("another command"),
+        None => Ok("no command"),
+    }
+}
+
+#[test]
+fn words_ask_for_layers_and_their_changes(rt: HostRuntime) -> Result<(), Fail> {
+    let alloc = rt.alloc();
+    assert_eq!(rt; asked_in_short(alloc, "added 00000002")?, "added 2");
+    assert_eq!(rt; asked_in_short(alloc, "removed last")?, "removed last");
+    assert_eq!(rt; asked_in_short(alloc, "layers")?, "layers");
+    assert_eq!(rt; asked_in_short(alloc, "squash 00000003")?, "squash 3");
+    assert_eq!(rt; asked_in_short(alloc, "commit")?, "no command");
+    assert_eq!(rt; asked_in_short(alloc, "layers 00000001")?, "no command");
     Ok(())
 }
 
@@ -240,6 +306,14 @@ fn each_answer_has_its_line(rt: HostRuntime) {
     assert_eq!(rt;
         reply_line(&Reply::Total(u128::MAX)).bytes(),
         b"total 340282366920938463463374607431768211455\n".as_slice()
+    );
+    assert_eq!(rt;
+        reply_line(&Reply::LayerParent(2, Some(1))).bytes(),
+        b"layer 00000002 parent 00000001\n".as_slice()
+    );
+    assert_eq!(rt;
+        reply_line(&Reply::LayerParent(1, None)).bytes(),
+        b"layer 00000001 parent none\n".as_slice()
     );
     assert_eq!(rt; reply_line(&Reply::Yes).bytes(), b"yes\n".as_slice());
     assert_eq!(rt; reply_line(&Reply::No).bytes(), b"no\n".as_slice());

@@ -18,7 +18,7 @@ pub(crate) fn read_ref(word: &str) -> Option<Ref>
 }
 
 /// The layer that a word names.
-fn read_layer(word: &str) -> Option<LayerRef>
+pub(crate) fn read_layer(word: &str) -> Option<LayerRef>
     ensures some { IfSome result (IsLayerWord word.now) }
     ensures none { IfNone result ((layer : LayerRef) → IsLayerWord word.now layer → ⊥) }
 {

@@ -1,4 +1,4 @@
-use Rattle.ts_script.proofs.CommandLaws.{same_command, no_command_is_none, some_command, body_of_triples}
+use Rattle.ts_script.proofs.CommandLaws.{same_command, no_command_is_none, some_command, body_of_triples, commit_of_triples}
 use Rattle.ts_script.proofs.law.one_command.Goals as goal
 
 pub returns-clause-once : goal.returns-clause-once
@@ -12,3 +12,6 @@ returns-clause-some c = some_command
 
 pub returns-clause-triples : goal.returns-clause-triples
 returns-clause-triples c = body_of_triples
+
+pub returns-clause-commit_triples : goal.returns-clause-commit_triples
+returns-clause-commit_triples c = commit_of_triples
