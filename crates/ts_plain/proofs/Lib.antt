@@ -11,6 +11,7 @@ pub mod LayerLaws
 pub mod LineLaws
 pub mod ListingLaws
 pub mod LookupLaws
+pub mod MadeLaws
 pub mod NetLaws
 pub mod OneLayer
 pub mod OrderLaws
