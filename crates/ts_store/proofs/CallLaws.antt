@@ -1,5 +1,5 @@
 -- One call after another.
-use Rattle.std.proofs.Common.{◌≡◌, Bool, true, false, ℕ, IsTrue, subst, sym, ◌∙◌}
+use Rattle.std.proofs.Common.{◌≡◌, Bool, false, ℕ, IsTrue, refl, subst, sym, ◌∙◌}
 use Rattle.ts_site.specs.Faults.{CountsFault}
 use Rattle.ts_site.specs.Outside.{Outside, OnlyReads, OnlySays}
 
@@ -31,3 +31,7 @@ reads_more fault old between new one other = record {
     same_faults = other.output.same_faults ∙ one.output.same_faults;
   };
 }
+
+-- no call yet
+pub reads_none : (outside : Outside) → OnlyReads false outside outside
+reads_none outside = record { telling = refl; folder = λ told. refl; counts = refl; output = record { same_telling = refl; same_told = refl; same_faults = refl } }

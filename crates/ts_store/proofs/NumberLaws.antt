@@ -1,20 +1,22 @@
 -- The numbers of the layers, and one layer more.
-use Rattle.std.proofs.Common.{◌≡◌, ℕ, zero, suc, ◌-◌, ◌<◌, ◌&&◌, Bool, true, false, T, cond, List, [], ◌∷◌, ◌++◌, map, length, get_or, Some, None, refl, sym, ap, ◌∙◌, subst, arith}
+use Rattle.std.proofs.Common.{◌≡◌, ℕ, zero, suc, ◌-◌, ◌+◌, ◌<◌, ◌&&◌, ◌||◌, Bool, true, false, T, List, [], ◌∷◌, ◌++◌, map, length, get_or, Some, None, IsTrue, true≢false, refl, sym, ap, ◌∙◌, subst, arith}
 use Rattle.std.specs.declared.cmp.Ordering.{Ordering}
-use Rattle.std.specs.declared.cmp.Ordering.TheVariants.{Less, Greater}
-use Rattle.std.specs.Ordering.{nat_cmp, is_lt, is_eq, eq_by_cmp}
-use Rattle.std.specs.Cmp.{nat_cmp_total, nat_cmp_is}
-use Rattle.std.proofs.lemmas.List.Elements.{All-push}
-use Rattle.std.specs.List.{AllByRecursion}
+use Rattle.std.specs.declared.cmp.Ordering.TheVariants.{Less}
+use Rattle.std.specs.Ordering.{nat_cmp, is_lt, eq_by_cmp}
+use Rattle.std.specs.Cmp.{nat_cmp_total, nat_cmp_is, Equal-is}
+use Rattle.std.specs.List.{AllByRecursion, list_any}
 use Rattle.std.specs.List.Sorted.{IsStrictlySortedBy}
-use Rattle.std.specs.FinMap.{find, is_sorted, keys, from_entries, from_sorted, from_entries_push, entries-from_sorted, get-from_entries, get-from_sorted, same_map, nat_cmp-IsAntisymmetric, insert, get}
+use Rattle.std.specs.FinMap.{is_sorted, keys, from_entries, from_sorted, entries-from_sorted, get-from_entries, get-from_sorted, same_map, nat_cmp-IsAntisymmetric, contains_key, contains_key-keys}
 use Rattle.std.specs.FinMap.Entries.{below_all}
 use Rattle.std.proofs.lemmas.Map.Keys.{below_from_sorted, sorted_tail}
-use Rattle.std.proofs.lemmas.List.{map-append, length-map}
+use Rattle.std.proofs.lemmas.List.{length-map}
 use Rattle.std.proofs.lemmas.Option.{slice_get-get_or}
 use Rattle.std.specs.List.{slice_get}
-use Rattle.ts_store.specs.declared.base_layer.BaseLayer.{BaseLayer}
-use Rattle.ts_store.specs.BaseLayers.{AreBaseLayers, IsBaseLayer, base_record, history_of_bases, entry_of}
+use Rattle.ts_plain.specs.declared.write.PlainLayer.{PlainLayer}
+use Rattle.ts_plain.specs.History.{AreHistory, entry_of, history_of}
+use Rattle.ts_plain.specs.NewLayer.{IsNewNumber}
+use Rattle.ts_plain.proofs.PlaceLaws.{IsAbove, numbers}
+use Rattle.ts_model.specs.History.{History}
 use Rattle.ts_store.specs.Step.{greatest_of, next_number}
 
 both : (a b : Bool) → T a → T b → T (a && b)
@@ -44,15 +46,12 @@ module _ {X : Type 0} where
       let same : from_entries {R = nat_cmp} es ≡ from_sorted es = same_map nat_cmp_total nat_cmp-IsAntisymmetric _ _ (λ q. get-from_entries nat_cmp_total es q ∙ sym (get-from_sorted nat_cmp es q sorted)) in
       ap keys same ∙ ap keys_in (entries-from_sorted nat_cmp es sorted)
 
-abbrev pub numbers : List BaseLayer → List ℕ
-numbers layers = map (λ loaded. loaded.number) layers
-
-keys_are : (layers : List BaseLayer) → keys_in (map entry_of layers) ≡ numbers layers
+keys_are : (layers : List PlainLayer) → keys_in (map entry_of layers) ≡ numbers layers
 keys_are [] = refl
 keys_are (l ∷ layers) = ap (λ ns. l.number ∷ ns) (keys_are layers)
 
-pub keys-kept : (layers : List BaseLayer) → AreBaseLayers layers → keys (history_of_bases layers) ≡ numbers layers
-keys-kept layers loaded = keys-from_entries (map entry_of layers) (subst (IsStrictlySortedBy nat_cmp) (sym (keys_are layers)) loaded.rise) ∙ keys_are layers
+pub keys-kept : (layers : List PlainLayer) → AreHistory layers → keys (history_of layers) ≡ numbers layers
+keys-kept layers history = keys-from_entries (map entry_of layers) (subst (IsStrictlySortedBy nat_cmp) (sym (keys_are layers)) history.numbers_rise) ∙ keys_are layers
 
 -- the greatest of rising numbers is the last
 greatest-last : (xs : List ℕ) → IsStrictlySortedBy nat_cmp xs → greatest_of xs ≡ get_or xs (length xs - 1) 0
@@ -64,22 +63,22 @@ greatest-last (x ∷ y ∷ ys) rise =
     let place : get_or (x ∷ y ∷ ys) (length (x ∷ y ∷ ys) - 1) 0 ≡ get_or (y ∷ ys) (length (y ∷ ys) - 1) 0 = ap (λ n. get_or (x ∷ y ∷ ys) n 0) (let e : length (x ∷ y ∷ ys) - 1 ≡ suc (length (y ∷ ys) - 1) = omega arith in e) in
     omega arith
 
-pub greatest-kept : (layers : List BaseLayer) → AreBaseLayers layers → greatest_of (keys (history_of_bases layers)) ≡ get_or (numbers layers) (length layers - 1) 0
-greatest-kept layers loaded =
-    ap greatest_of (keys-kept layers loaded) ∙ greatest-last (numbers layers) loaded.rise
-    ∙ ap (λ n. get_or (numbers layers) (n - 1) 0) (length-map layers (λ (l : BaseLayer). l.number))
+pub greatest-kept : (layers : List PlainLayer) → AreHistory layers → greatest_of (keys (history_of layers)) ≡ get_or (numbers layers) (length layers - 1) 0
+greatest-kept layers history =
+    ap greatest_of (keys-kept layers history) ∙ greatest-last (numbers layers) history.numbers_rise
+    ∙ ap (λ n. get_or (numbers layers) (n - 1) 0) (length-map layers (λ (l : PlainLayer). l.number))
 
-number-at : (layers : List BaseLayer) (i : ℕ) (l : BaseLayer) → slice_get layers i ≡ Some l → get_or (numbers layers) i 0 ≡ l.number
+number-at : (layers : List PlainLayer) (i : ℕ) (l : PlainLayer) → slice_get layers i ≡ Some l → get_or (numbers layers) i 0 ≡ l.number
 number-at [] i l e = let none : ⊥ = cc in absurd none
-number-at (x ∷ xs) zero l e = let same : x ≡ l = cc in ap (λ (k : BaseLayer). k.number) same
+number-at (x ∷ xs) zero l e = let same : x ≡ l = cc in ap (λ (k : PlainLayer). k.number) same
 number-at (x ∷ xs) (suc i) l e = number-at xs i l e
 
-pub greatest-some : (layers : List BaseLayer) (l : BaseLayer) → AreBaseLayers layers → Some l ≡ slice_get layers (length layers - 1) → l.number ≡ greatest_of (keys (history_of_bases layers))
-greatest-some layers l loaded e = sym (greatest-kept layers loaded ∙ number-at layers (length layers - 1) l (sym e))
+pub greatest-some : (layers : List PlainLayer) (l : PlainLayer) → AreHistory layers → Some l ≡ slice_get layers (length layers - 1) → l.number ≡ greatest_of (keys (history_of layers))
+greatest-some layers l history e = sym (greatest-kept layers history ∙ number-at layers (length layers - 1) l (sym e))
 
-pub greatest-none : (layers : List BaseLayer) → AreBaseLayers layers → None ≡ slice_get layers (length layers - 1) → 0 ≡ greatest_of (keys (history_of_bases layers))
-greatest-none [] loaded e = sym (greatest-kept [] loaded)
-greatest-none (x ∷ xs) loaded e =
+pub greatest-none : (layers : List PlainLayer) → AreHistory layers → None ≡ slice_get layers (length layers - 1) → 0 ≡ greatest_of (keys (history_of layers))
+greatest-none [] history e = sym (greatest-kept [] history)
+greatest-none (x ∷ xs) history e =
     let some = slice_get-get_or (x ∷ xs) (length (x ∷ xs) - 1) x (omega arith) in
     let none : ⊥ = cc in absurd none
 
@@ -98,27 +97,24 @@ unfolding IsStrictlySortedBy
 rise-push [] n rise above = (tt, tt)
 rise-push (x ∷ xs) n rise above = (all-push (λ y. nat_cmp x y ≡ Less) xs n rise.0 (sym (nat_cmp_is x n Less above.0)), rise-push xs n rise.1 above.1)
 
-module _ (layers : List BaseLayer) (loaded : BaseLayer) (are : AreBaseLayers layers) (number : loaded.number ≡ next_number (history_of_bases layers)) where
-  above : AllByRecursion (λ x. x < loaded.number) (numbers layers)
-  above = greatest-above (numbers layers) loaded.number (let e = ap greatest_of (keys-kept layers are) in omega arith)
+-- the number of the next layer is above those of all that stand
+pub next_above : (history : History) (k : ℕ) → IsTrue (contains_key history k) → k < next_number history
+next_above history k stands = under (keys history) (sym (contains_key-keys history k) ∙ stands)
+  where
+    under : (xs : List ℕ) → list_any (eq_by_cmp nat_cmp k) xs ≡ true → k < greatest_of xs + 1
+    under [] is = absurd (true≢false (sym is))
+    under (x ∷ xs) is =
+        elim (eq_by_cmp nat_cmp k x) as (λ b. eq_by_cmp nat_cmp k x ≡ b → (b || list_any (eq_by_cmp nat_cmp k) xs) ≡ true → k < greatest_of (x ∷ xs) + 1) [
+          | true ↦ λ e _. let same : k ≡ x = nat_cmp-IsAntisymmetric k x ((Equal-is (nat_cmp k x)).0 e) in omega arith
+          | false ↦ λ e later. let below : k < greatest_of xs + 1 = under xs later in omega arith
+        ] refl is
 
-  pub AreBaseLayers-push : IsBaseLayer loaded → AreBaseLayers (layers ++ loaded ∷ [])
-  AreBaseLayers-push is = record {
-    rise = subst (IsStrictlySortedBy nat_cmp) (sym (map-append (λ (l : BaseLayer). l.number) layers (loaded ∷ []))) (rise-push (numbers layers) loaded.number are.rise above);
-    each = All-push IsBaseLayer layers loaded are.each is;
-  }
+-- so it is a new one
+pub next_is_new : (history : History) → IsNewNumber history (next_number history)
+next_is_new history = record { positive = omega arith; above = next_above history }
 
-  find-above : (ls : List BaseLayer) → AllByRecursion (λ x. x < loaded.number) (numbers ls) → find nat_cmp loaded.number (map entry_of ls) ≡ None
-  find-above [] a = refl
-  find-above (l ∷ ls) a =
-      let apart : eq_by_cmp nat_cmp loaded.number l.number ≡ false = ap is_eq (sym (nat_cmp_is loaded.number l.number Greater a.0)) in
-      ap (λ b. cond b (Some (base_record l.triples.items)) (find nat_cmp loaded.number (map entry_of ls))) apart ∙ find-above ls a.1
-
-  -- the number is a new one
-  pub get-next : get (history_of_bases layers) loaded.number ≡ None
-  get-next = get-from_entries nat_cmp_total (map entry_of layers) loaded.number ∙ find-above layers above
-
-  pub history_of_bases-push : history_of_bases (layers ++ loaded ∷ []) ≡ insert (history_of_bases layers) loaded.number (base_record loaded.triples.items)
-  history_of_bases-push =
-      ap from_entries (map-append entry_of layers (loaded ∷ []))
-      ∙ from_entries_push nat_cmp_total nat_cmp-IsAntisymmetric (map entry_of layers) loaded.number (base_record loaded.triples.items) (find-above layers above)
+-- and rises behind those of the layers
+pub next_rises : (layers : List PlainLayer) → AreHistory layers → IsAbove layers (next_number (history_of layers))
+next_rises layers history =
+    let next : next_number (history_of layers) ≡ greatest_of (numbers layers) + 1 = ap (λ ns. greatest_of ns + 1) (keys-kept layers history) in
+    subst (IsAbove layers) (sym next) (rise-push (numbers layers) (greatest_of (numbers layers) + 1) history.numbers_rise (greatest-above (numbers layers) (greatest_of (numbers layers) + 1) (omega arith)))

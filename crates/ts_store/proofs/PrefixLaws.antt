@@ -1,16 +1,19 @@
 -- A text that is said piece by piece.
-use Rattle.std.proofs.Common.{◌≡◌, ℕ, ◌+◌, ◌<◌, ◌≤◌, Bool, true, false, cond, List, [], ◌∷◌, ◌++◌, filter, flat_map, length, take, drop, get_or, Result, Ok, Err, IfErr, inl, inr, refl, sym, ap, subst, ◌∙◌, arith, append_assoc, append-nil}
-use Rattle.std.proofs.lemmas.List.{take-append-drop, length-append, length-drop, length-take-le}
+use Rattle.std.proofs.Common.{◌≡◌, ℕ, ◌+◌, ◌<◌, ◌≤◌, Bool, true, false, cond, List, [], ◌∷◌, ◌++◌, filter, flat_map, length, map, take, drop, get_or, None, Result, Ok, Err, IfErr, inl, inr, refl, sym, ap, subst, ◌∙◌, arith, append_assoc, append-nil}
+use denote.Ref.{Bor}
+use Rattle.std.proofs.lemmas.List.{take-append-drop, length-append, length-drop, length-map, length-take-le, get_or-map}
 use Rattle.std.proofs.lemmas.List.Elements.{filter_more, filter-append}
 use Rattle.std.proofs.lemmas.List.Concat.{flat_map-append}
 use Rattle.std.proofs.Math.Seq.{take-append_seam}
 use Rattle.ts_model.specs.TextTriple.{TextTriple}
+use Rattle.ts_model.specs.Fits.{fits}
 use Rattle.ts_nt.specs.TripleLine.{triple_line}
 use Rattle.ts_script.specs.Replies.{line}
 use Rattle.ts_store.specs.declared.stop.Stop.{Stop}
 use Rattle.ts_store.specs.declared.stop.Kind.{Kind}
 use Rattle.ts_store.specs.declared.stop.Stop.TheVariants.{Usage, Damaged, DiskFault, InputFault, OutputFault, InputLimit, Memory}
-use Rattle.ts_store.specs.StepParts.{IsQueryStop, IsSaidAt, SaysPrefix}
+use Rattle.ts_store.specs.Does.{IsQueryStop}
+use Rattle.ts_store.specs.Listed.{IsSaidAt, SaysPrefix}
 use Rattle.ts_store.specs.Leaves.{AreLines, LeavesTold}
 
 -- lines behind lines are lines
@@ -155,3 +158,34 @@ list_done (Err (Damaged name)) text total old between new piece why before told 
 list_done (Err DiskFault) text total old between new piece why before told = absurd why
 list_done (Err InputFault) text total old between new piece why before told = absurd why
 list_done (Err InputLimit) text total old between new piece why before told = absurd why
+
+-- ---- triples that are lent
+
+abbrev pub triples_lent : List (Bor TextTriple) → List TextTriple
+triples_lent triples = map (λ triple. triple.now) triples
+
+pub lent_below : (triples : List (Bor TextTriple)) (i : ℕ) → i < length triples → i < length (triples_lent triples)
+lent_below triples i below = omega (arith, below, length-map triples (λ (triple : Bor TextTriple). triple.now))
+
+pub lent_is : (triples : List (Bor TextTriple)) (i : ℕ) (item : Bor TextTriple) → i < length triples → item ≡ get_or triples i item → item.now ≡ get_or (triples_lent triples) i item.now
+lent_is triples i item below is = ap (λ (triple : Bor TextTriple). triple.now) is ∙ sym (get_or-map (λ (triple : Bor TextTriple). triple.now) triples i item item.now below)
+
+-- every triple fits where no term is given
+pub all_fit : (triples : List TextTriple) → filter (fits (record { subject = None; predicate = None; object = None })) triples ≡ triples
+all_fit [] = refl
+all_fit (triple ∷ triples) = ap (λ l. triple ∷ l) (all_fit triples)
+
+-- ---- lines that are said one by one
+
+module _ {A : Type 0} (p : A → Bool) (f : A → List ℕ) (xs : List A) (i : ℕ) (x : A) (below : i < length xs) (is : x ≡ get_or xs i x) (e : p x ≡ true) (old between new : List ℕ)
+    (before : SaysPrefix AreLines (text_of p f xs i i) old between []) where
+  pub line_said : AreLines (f x) → new ≡ between ++ f x → SaysPrefix AreLines (text_of p f xs i (i + 1)) old new []
+  line_said lines said = lines_more p f xs i x below is e old between new [] [] before (f x, lines, said, append-nil (f x))
+
+  pub line_failed : (stop : Stop) (total : List ℕ) → stop ≡ OutputFault → 0 < length total → LeavesTold (Err stop) (f x) between new → LeavesTold (Err stop) (flat_map f (filter p xs) ++ total) old new
+  line_failed stop total why longer told = subst (λ (s : Stop). LeavesTold (Err s) (flat_map f (filter p xs) ++ total) old new) (sym why) (failed (subst (λ (s : Stop). LeavesTold (Err s) (f x) between new) why told))
+    where
+      failed : LeavesTold (Err OutputFault) (f x) between new → LeavesTold (Err OutputFault) (flat_map f (filter p xs) ++ total) old new
+      failed (n, front) =
+          list_ended OutputFault (flat_map f (filter p xs)) total old new tt longer
+          (lines_ended p f xs i x below is e old between new [] (drop n (f x)) before OutputFault (prefix_taken (IsSaidAt OutputFault) (f x) between new n tt front))

@@ -1,41 +1,53 @@
 -- A folder and the state that its files tell, and the first file that is damaged.
-use Rattle.std.specs.Prelude.{◌≡◌, ◌⊎◌, ℕ, ◌<◌, List, [], IsTrue, MatchOption, false, None, Some}
+use Rattle.std.specs.Prelude.{◌≡◌, ◌⊎◌, ℕ, ◌<◌, List, IsTrue, false, None, Some, MatchOption}
 use Rattle.std.specs.declared.cmp.Ordering.TheVariants.{Less}
 use Rattle.std.specs.Ordering.{nat_cmp}
 use Rattle.std.specs.Cmp.Lexicographic.{slice_cmp}
-use Rattle.std.specs.FinMap.{get, contains_key}
-use Rattle.ts_model.specs.TextTriple.{TextTriple}
-use Rattle.ts_model.specs.History.{History, LayerRecord}
+use Rattle.std.specs.FinMap.{get, insert, contains_key}
+use Rattle.ts_model.specs.History.{History, LayerRecord, IsLayerKept, IsWellKept}
 use Rattle.ts_model.specs.Names.{IsLabelName}
+use Rattle.ts_model.specs.Sets.{members}
 use Rattle.ts_plain.specs.PlainFile.{plain_file}
-use Rattle.ts_plain.specs.PlainRules.{IsPlainLayer}
 use Rattle.ts_replace.specs.Names.{IsLayerNumber, layer_name, rollup_name, label_file_name}
 use Rattle.ts_site.specs.Folder.{Folder}
-use Rattle.ts_store.specs.Files.{IsBase, file_of}
 use Rattle.ts_store.specs.State.{State}
+
+-- the file is that of this layer
+abbrev pub IsLayerFile : ℕ → LayerRecord → List ℕ → Type 0
+IsLayerFile k layer file = file ≡ plain_file k layer.parent (members layer.additions) (members layer.removals)
 
 -- the file is that of layer k of the history
 abbrev pub IsFileOf : History → ℕ → List ℕ → Type 0
-IsFileOf history k file = (layer : LayerRecord) × (get history k ≡ Some layer) × (file ≡ file_of k layer)
+IsFileOf history k file = (layer : LayerRecord) × (get history k ≡ Some layer) × IsLayerFile k layer file
 
--- Each layer of the state has its file and no other stands; there are no rollups and no labels yet. The newest layer of a run
--- stands in no file.
+-- The history is well kept, each of its layers has its file and no other stands; there are no rollups and no labels yet. The
+-- newest layer of a run stands in no file.
 pub record FolderSays (folder : Folder) (state : State) : Type 0 where
-  pub numbers : (k : ℕ) (layer : LayerRecord) → get state.history k ≡ Some layer → IsLayerNumber k × IsBase layer
+  pub kept : IsWellKept state.history
   pub layers : (k : ℕ) → IsLayerNumber k → MatchOption (get folder (layer_name k)) (get state.history k ≡ None) (IsFileOf state.history k)
   pub rollups : (k : ℕ) → IsLayerNumber k → contains_key folder (rollup_name k) ≡ false
   pub labels : (name : List ℕ) → IsLabelName name → contains_key folder (label_file_name name) ≡ false
 
--- the file is the plain file of a base of this number
-abbrev pub IsBaseFile : ℕ → List ℕ → Type 0
-IsBaseFile k file = (additions : List TextTriple) × IsPlainLayer k None additions [] × (file ≡ plain_file k None additions [])
+-- ---- damage
 
--- the layer stands, and its file is not that of a base
-abbrev pub IsDamagedLayer : Folder → ℕ → Type 0
-IsDamagedLayer folder k = IsLayerNumber k × ((file : List ℕ) × (get folder (layer_name k) ≡ Some file) × (IsBaseFile k file → ⊥))
+-- the history of the layers whose files have numbers below k, all sound
+pub record SaysBelow (folder : Folder) (k : ℕ) (history : History) : Type 0 where
+  pub kept : IsWellKept history
+  pub below : (j : ℕ) (layer : LayerRecord) → get history j ≡ Some layer → j < k
+  pub layers : (j : ℕ) → IsLayerNumber j → j < k → MatchOption (get folder (layer_name j)) (get history j ≡ None) (IsFileOf history j)
+
+-- The file of layer k is damaged, and no lesser one is: it is not the file of a layer of this number that keeps to its place over
+-- the layers below it.
+pub record IsFirstDamagedLayer (folder : Folder) (k : ℕ) : Type 0 where
+  pub number : IsLayerNumber k
+  pub file : List ℕ
+  pub stands : get folder (layer_name k) ≡ Some file
+  pub history : History
+  pub says : SaysBelow folder k history
+  pub damaged : (layer : LayerRecord) → IsLayerKept (insert history k layer) k layer → IsLayerFile k layer file → ⊥
 
 abbrev pub AreSoundLayers : Folder → Type 0
-AreSoundLayers folder = (k : ℕ) → IsDamagedLayer folder k → ⊥
+AreSoundLayers folder = (k : ℕ) → IsFirstDamagedLayer folder k → ⊥
 
 abbrev pub HasRollup : Folder → ℕ → Type 0
 HasRollup folder k = IsLayerNumber k × IsTrue (contains_key folder (rollup_name k))
@@ -43,11 +55,22 @@ HasRollup folder k = IsLayerNumber k × IsTrue (contains_key folder (rollup_name
 abbrev pub HasLabel : Folder → List ℕ → Type 0
 HasLabel folder name = IsLabelName name × IsTrue (contains_key folder (label_file_name name))
 
--- The first file that is at fault: of the layers, then the rollups, then the labels, each rising. A rollup or a label is, since
--- neither is made yet.
+-- no layer is damaged, and this is the first rollup: neither rollups nor labels are made yet
+pub record IsFirstRollup (folder : Folder) (k : ℕ) : Type 0 where
+  pub sound : AreSoundLayers folder
+  pub stands : HasRollup folder k
+  pub first : (j : ℕ) → j < k → HasRollup folder j → ⊥
+
+-- no layer is damaged, there is no rollup, and this is the first label
+pub record IsFirstLabel (folder : Folder) (label : List ℕ) : Type 0 where
+  pub sound : AreSoundLayers folder
+  pub no_rollup : (k : ℕ) → HasRollup folder k → ⊥
+  pub stands : HasLabel folder label
+  pub first : (other : List ℕ) → slice_cmp nat_cmp other label ≡ Less → HasLabel folder other → ⊥
+
+-- the first file that is at fault: of the layers, then the rollups, then the labels, each rising
 abbrev pub IsFirstDamaged : Folder → List ℕ → Type 0
 IsFirstDamaged folder name =
-    ((k : ℕ) × IsDamagedLayer folder k × (name ≡ layer_name k) × ((j : ℕ) → j < k → IsDamagedLayer folder j → ⊥))
-    ⊎ (((k : ℕ) × AreSoundLayers folder × HasRollup folder k × (name ≡ rollup_name k) × ((j : ℕ) → j < k → HasRollup folder j → ⊥))
-    ⊎ ((label : List ℕ) × AreSoundLayers folder × ((k : ℕ) → HasRollup folder k → ⊥) × HasLabel folder label × (name ≡ label_file_name label)
-    × ((other : List ℕ) → slice_cmp nat_cmp other label ≡ Less → HasLabel folder other → ⊥)))
+    ((k : ℕ) × IsFirstDamagedLayer folder k × (name ≡ layer_name k))
+    ⊎ (((k : ℕ) × IsFirstRollup folder k × (name ≡ rollup_name k))
+    ⊎ ((label : List ℕ) × IsFirstLabel folder label × (name ≡ label_file_name label)))

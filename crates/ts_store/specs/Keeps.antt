@@ -2,7 +2,6 @@
 use Rattle.std.specs.Prelude.{◌≡◌, Option, None}
 use Rattle.ts_store.specs.declared.session.Session.{Session}
 use Rattle.ts_store.specs.declared.stop.Stop.{Stop}
-use Rattle.ts_store.specs.StepParts.{state_of}
 use Rattle.ts_store.specs.State.{State}
 
 -- the stop that ended it
@@ -12,4 +11,4 @@ spent_by session = session.spent
 -- the session isn't spent, and stands for this state
 pub record Keeps (session : Session) (state : State) : Type 0 where
   pub unspent : spent_by session ≡ None
-  pub kept : state_of session.layers.items session.last ≡ state
+  pub store : session.store ≡ state

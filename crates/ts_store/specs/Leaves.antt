@@ -1,6 +1,5 @@
 -- What a step leaves of the folder, the state and the output, by how it was answered.
 use Rattle.std.specs.Prelude.{◌≡◌, ◌⊎◌, ℕ, ◌<◌, List, [], ◌∷◌, ◌++◌, take, length, Result, Ok, Err}
-use Rattle.std.specs.FinMap.{insert}
 use Rattle.ts_model.specs.History.{LayerRecord}
 use Rattle.ts_replace.specs.Names.{layer_name}
 use Rattle.ts_replace.specs.Replaced.{new_tmp, replaced}
@@ -10,12 +9,12 @@ use Rattle.ts_store.specs.declared.stop.Stop.TheVariants.{DiskFault, OutputFault
 use Rattle.ts_store.specs.declared.stop.Kind.{Kind}
 use Rattle.ts_store.specs.FolderSays.{IsFileOf}
 use Rattle.ts_store.specs.State.{State}
-use Rattle.ts_store.specs.Step.{next_number}
+use Rattle.ts_store.specs.Step.{next_number, with_layer}
 
 -- the folder has one file more: that of the next layer
 pub record AddsLayer (before after : State) (old new : Folder) : Type 0 where
   pub layer : LayerRecord
-  pub history : after.history ≡ insert before.history (next_number before.history) layer
+  pub history : after.history ≡ with_layer before.history layer
   pub file : List ℕ
   pub is_file : IsFileOf after.history (next_number before.history) file
   pub folder : new ≡ replaced old (layer_name (next_number before.history)) file
@@ -29,7 +28,7 @@ Follows before after old new = ((after.history ≡ before.history) × (new ≡ o
 abbrev pub LeavesFolder : Result Kind Stop → State → State → Folder → Folder → Type 0
 LeavesFolder (Ok kind) before after old new = Follows before after old new
 LeavesFolder (Err OutputFault) before after old new = Follows before after old new
-LeavesFolder (Err DiskFault) before after old new = IsAnyAt new_tmp old new ⊎ ((new ≡ old) ⊎ Follows before after old new)
+LeavesFolder (Err DiskFault) before after old new = IsAnyAt new_tmp old new ⊎ Follows before after old new
 LeavesFolder (Err _) before after old new = new ≡ old
 
 -- What is true of the state after the step, also where only its reply was not said; of the one before it; at a fault of the disk

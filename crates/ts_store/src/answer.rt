@@ -1,21 +1,16 @@
-// Saying a piece.
-ghost use Rattle.std.specs.Prelude.{◌≡◌, ◌⊎◌, IsTrue};
-ghost use Rattle.ts_site.specs.Faults.{is_err_and};
-ghost use Rattle.ts_site.specs.Outside.{OnlySays};
+// Saying a reply of one line.
+ghost use Rattle.std.specs.Prelude.{◌≡◌, IfErr, true, false};
 ghost use Rattle.ts_script.specs.Replies.{refusal_text, reply_text};
-ghost use Rattle.ts_store.specs.Leaves.{LeavesTold};
-ghost use Rattle.ts_store.specs.Stops.{is_output_fault};
+ghost use Rattle.ts_store.specs.Does.{Answers};
 
 use crate::{Kind, Stop};
 use ts_script::{Refusal, Reply, refusal_line, reply_line};
 use ts_site::{Disk, Site};
 
-/// Says a reply.
+/// Says a reply. It takes no memory.
 pub(crate) fn reply<W: Site>(site: &mut W, reply: &Reply) -> Result<Kind, Stop>
-    ensures kind { (result ≡ Ok Kind.Done) ⊎ (result ≡ Err Stop.OutputFault) }
-    ensures told { IsTrue (W.outside site.old).tells_output
-        → LeavesTold result (reply_text reply.now) (W.outside site.old).told (W.outside site.new).told }
-    ensures says { OnlySays (is_err_and is_output_fault result) (W.outside site.old) (W.outside site.new) }
+    ensures answers { Answers (reply_text reply.now) false result (W.outside site.old) (W.outside site.new) }
+    ensures why { IfErr result (λ stop. stop ≡ Stop.OutputFault) }
 {
     match site.say(reply_line(reply).bytes()) {
         Ok(()) => Ok(Kind::Done),
@@ -23,12 +18,10 @@ pub(crate) fn reply<W: Site>(site: &mut W, reply: &Reply) -> Result<Kind, Stop>
     }
 }
 
-/// Says a refusal.
+/// Says a refusal. It takes no memory.
 pub(crate) fn refuse<W: Site>(site: &mut W, refusal: &Refusal) -> Result<Kind, Stop>
-    ensures kind { (result ≡ Ok Kind.Refused) ⊎ (result ≡ Err Stop.OutputFault) }
-    ensures told { IsTrue (W.outside site.old).tells_output
-        → LeavesTold result (refusal_text refusal.now) (W.outside site.old).told (W.outside site.new).told }
-    ensures says { OnlySays (is_err_and is_output_fault result) (W.outside site.old) (W.outside site.new) }
+    ensures answers { Answers (refusal_text refusal.now) true result (W.outside site.old) (W.outside site.new) }
+    ensures why { IfErr result (λ stop. stop ≡ Stop.OutputFault) }
 {
     match site.say(refusal_line(refusal).bytes()) {
         Ok(()) => Ok(Kind::Refused),

@@ -13,17 +13,25 @@ pub use session::Session;
 pub use stop::{Kind, Stop};
 
 mod answer;
-mod base;
-mod base_layer;
+#[cfg(test)]
+mod child_fault_tests;
+#[cfg(test)]
+mod child_tests;
 mod dispatch;
 mod find;
 mod law;
+mod layers;
 mod listing;
+mod make;
 mod open;
-mod order;
+#[cfg(test)]
+mod opening_tests;
 mod publish;
 mod queries;
 mod session;
 mod stop;
+mod store;
+#[cfg(test)]
+mod test_sessions;
 #[cfg(test)]
 mod tests;

@@ -1,13 +1,14 @@
 // Listing triples.
-ghost use Rattle.std.specs.Prelude.{◌≡◌, ◌++◌, [], IfOk, IfErr, filter, flat_map, length, IsTrue, ◌<◌, OnOk};
+ghost use Rattle.std.specs.Prelude.{◌≡◌, ◌++◌, [], IfOk, IfErr, filter, flat_map, map, length, IsTrue, ◌<◌, OnOk, false};
 ghost use Rattle.ts_model.specs.Fits.{fits};
 ghost use Rattle.ts_nt.specs.TripleLine.{triple_line};
 ghost use Rattle.ts_script.specs.Replies.{reply_text};
 ghost use Rattle.ts_site.specs.Faults.{is_err_and};
 ghost use Rattle.ts_site.specs.Outside.{OnlySays};
-ghost use Rattle.ts_store.specs.StepParts.{IsQueryStop, SaysSoFar};
+ghost use Rattle.ts_store.specs.Does.{Answers, IsQueryStop};
+ghost use Rattle.ts_store.specs.Leaves.{AreLines};
+ghost use Rattle.ts_store.specs.Listed.{SaysSoFar};
 ghost use Rattle.ts_store.specs.Step.{listing_text};
-ghost use Rattle.ts_store.specs.Leaves.{AreLines, LeavesTold};
 ghost use Rattle.ts_store.specs.Stops.{is_output_fault};
 
 use crate::{Kind, Stop};
@@ -20,18 +21,32 @@ use ts_site::{Disk, Site};
 /// The fewest bytes of lines that are said at once, but for the last ones.
 const PIECE: usize = 65_536;
 
+/// Says a line for each triple, and then how many they are.
+pub(crate) fn list_all<W: Site>(
+    alloc: Global,
+    site: &mut W,
+    triples: &[&Triple],
+) -> Result<Kind, Stop>
+    ensures answers { Answers (listing_text (map (λ triple. triple.now) triples.now)) false result (W.outside site.old) (W.outside site.new) }
+    ensures why { IfErr result IsQueryStop }
+{
+    let unbound = Pattern {
+        subject: None,
+        predicate: None,
+        object: None,
+    };
+    list(alloc, site, triples, &unbound)
+}
+
 /// Says a line for each triple that fits, and then how many they are. It keeps no more of the lines than a piece and a line.
 pub(crate) fn list<W: Site>(
     alloc: Global,
     site: &mut W,
-    triples: &[Triple],
+    triples: &[&Triple],
     pattern: &Pattern,
 ) -> Result<Kind, Stop>
-    ensures kind { IfOk result (λ kind. kind ≡ Kind.Done) }
-    ensures told { IsTrue (W.outside site.old).tells_output
-        → LeavesTold result (listing_text (filter (fits pattern.now) triples.now)) (W.outside site.old).told (W.outside site.new).told }
+    ensures answers { Answers (listing_text (filter (fits pattern.now) (map (λ triple. triple.now) triples.now))) false result (W.outside site.old) (W.outside site.new) }
     ensures why { IfErr result IsQueryStop }
-    ensures says { OnlySays (is_err_and is_output_fault result) (W.outside site.old) (W.outside site.new) }
 {
     let mut piece = Vec::new(alloc);
     match lines(site, triples, pattern, &mut piece) {
@@ -42,11 +57,8 @@ pub(crate) fn list<W: Site>(
 
 /// Says what is left of the lines, and how many they are.
 fn end<W: Site>(site: &mut W, piece: &mut Vec<u8>, count: usize) -> Result<Kind, Stop>
-    ensures kind { IfOk result (λ kind. kind ≡ Kind.Done) }
-    ensures told { IsTrue (W.outside site.old).tells_output
-        → LeavesTold result (piece.old.items ++ reply_text (Reply.Total count)) (W.outside site.old).told (W.outside site.new).told }
+    ensures answers { Answers (piece.old.items ++ reply_text (Reply.Total count)) false result (W.outside site.old) (W.outside site.new) }
     ensures why { IfErr result IsQueryStop }
-    ensures says { OnlySays (is_err_and is_output_fault result) (W.outside site.old) (W.outside site.new) }
 {
     let line = reply_line(&Reply::Total(count as u128));
     if piece.extend_from_slice(line.bytes()).is_err() {
@@ -61,14 +73,15 @@ fn end<W: Site>(site: &mut W, piece: &mut Vec<u8>, count: usize) -> Result<Kind,
 /// The lines of the triples that fit: all but what `piece` then holds is said. Gives their number.
 fn lines<W: Site>(
     site: &mut W,
-    triples: &[Triple],
+    triples: &[&Triple],
     pattern: &Pattern,
     piece: &mut Vec<u8>,
 ) -> Result<usize, Stop>
     requires { piece.old.items ≡ [] }
-    ensures count { IfOk result (λ count. count ≡ length (filter (fits pattern.now) triples.now)) }
+    ensures small { OnOk result (length piece.new.items < 65536) }
+    ensures count { IfOk result (λ count. count ≡ length (filter (fits pattern.now) (map (λ triple. triple.now) triples.now))) }
     ensures told { IsTrue (W.outside site.old).tells_output
-        → SaysSoFar result (flat_map triple_line (filter (fits pattern.now) triples.now)) (W.outside site.old).told (W.outside site.new).told piece.new.items }
+        → SaysSoFar result (flat_map triple_line (filter (fits pattern.now) (map (λ triple. triple.now) triples.now))) (W.outside site.old).told (W.outside site.new).told piece.new.items }
     ensures why { IfErr result IsQueryStop }
     ensures says { OnlySays (is_err_and is_output_fault result) (W.outside site.old) (W.outside site.new) }
 {
@@ -86,6 +99,7 @@ fn lines<W: Site>(
 
 /// One more line behind those of the piece, which is said once it is long enough.
 fn line<W: Site>(site: &mut W, triple: &Triple, piece: &mut Vec<u8>) -> Result<(), Stop>
+    ensures small { OnOk result (length piece.new.items < 65536) }
     ensures told { IsTrue (W.outside site.old).tells_output
         → SaysSoFar result (piece.old.items ++ triple_line triple.now) (W.outside site.old).told (W.outside site.new).told piece.new.items }
     ensures why { IfErr result IsQueryStop }

@@ -1,100 +1,121 @@
-// Giving a folder a base layer.
-ghost use Rattle.std.specs.Prelude.{◌≡◌, ◌⊎◌, ◌<◌, ◌≤◌, ◌^◌, ◌∷◌, ◌++◌, [], IsTrue, IfOk, IfErr, Err, MatchResult, vec_len, vec_capacity};
+// Giving a folder a layer.
+ghost use Rattle.std.specs.Prelude.{◌≡◌, ◌⊎◌, ◌<◌, ◌^◌, ◌&&◌, nat_lt, ◌∷◌, ◌++◌, [], IsTrue, IfOk, IfErr, Err, MatchOption, MatchResult, true, false, vec_len, vec_capacity};
+ghost use Rattle.ts_plain.specs.History.{AreHistory, history_of, record_of};
+ghost use Rattle.ts_plain.specs.PlainFile.{plain_file};
 ghost use Rattle.ts_replace.specs.Names.{layer_name};
-ghost use Rattle.ts_replace.specs.Replaced.{replaced};
+ghost use Rattle.ts_replace.specs.Replaced.{Replaces};
 ghost use Rattle.ts_script.specs.Replies.{reply_text};
 ghost use Rattle.ts_site.specs.Faults.{CountsFault, is_err_and};
-ghost use Rattle.ts_store.specs.StepParts.{AddsBase, IsNewest, KeepsAll, state_of};
-ghost use Rattle.ts_store.specs.BaseLayers.{AreBaseLayers, history_of_bases};
-ghost use Rattle.ts_store.specs.Step.{next_number, step_of};
-ghost use Rattle.ts_store.specs.AfterBase.{LeavesFiles, LeavesHistory, folder_of};
-ghost use Rattle.ts_store.specs.Files.{AreFilesOf};
+ghost use Rattle.ts_store.specs.Does.{Does};
 ghost use Rattle.ts_store.specs.Leaves.{LeavesTold};
-ghost use Rattle.ts_store.specs.Stops.{IsStepStop, KeepsTelling, is_disk_fault, is_output_fault, kind_of};
+ghost use Rattle.ts_store.specs.Publishes.{AddsLayerTo, KeepsLayers, LeavesReplaced};
+ghost use Rattle.ts_store.specs.Step.{is_counted_at, makes, with_layer};
+ghost use Rattle.ts_store.specs.Stops.{KeepsTelling, is_disk_fault, is_output_fault};
+ghost use Rattle.ts_store.specs.Store.{IsNextLayer, IsSound, state_of};
 
 use crate::answer::{refuse, reply};
-use crate::base::{NewBase, make};
-use crate::base_layer::BaseLayer;
 use crate::{Kind, Stop};
-use std::alloc::Global;
-use ts_model::SignedTriple;
+use std::alloc::{AllocError, Global};
+use ts_model::Totals;
+use ts_plain::{PlainLayer, totals_after, write_plain};
 use ts_replace::{layer_file, replace};
-use ts_script::{Command, Refusal, Reply};
+use ts_script::{Refusal, Reply};
 use ts_site::{Disk, Site};
 
-/// Makes the base layer of a body, and says its reply. It takes all its memory before it writes.
-pub(crate) fn make_base<W: Site>(
+/// The most terms and predicates of a layer.
+const GREATEST: u64 = 4_294_967_295;
+
+/// Makes a layer if its terms have numbers, and says the reply. It takes all its memory before it writes.
+pub(crate) fn make<W: Site>(
     alloc: Global,
-    layers: &mut Vec<BaseLayer>,
+    layers: &mut Vec<PlainLayer>,
     last: &mut Option<u32>,
     site: &mut W,
-    body: &[SignedTriple],
+    layer: PlainLayer,
 ) -> Result<Kind, Stop>
-    requires loaded { AreBaseLayers layers.old.items }
-    requires newest { IsNewest layers.old.items last.old }
-    ensures loaded { AreBaseLayers layers.new.items }
-    ensures newest { IsNewest layers.new.items last.new }
-    ensures state { let stepped = step_of (state_of layers.old.items last.old) (Command.Base body.now) in
-        IfOk result (λ kind. (state_of layers.new.items last.new ≡ stepped.state) × (kind ≡ kind_of stepped.refused)) }
-    ensures told { IsTrue (W.outside site.old).tells_output
-        → LeavesTold result (step_of (state_of layers.old.items last.old) (Command.Base body.now)).told (W.outside site.old).told (W.outside site.new).told }
-    ensures folder { IsTrue (W.outside site.old).tells_folder
-        → LeavesFiles result (folder_of (W.outside site.old).folder (state_of layers.old.items last.old) (Command.Base body.now)) (W.outside site.old).folder (W.outside site.new).folder }
-    ensures says { IsTrue (W.outside site.old).tells_folder → AreFilesOf (W.outside site.old).folder (history_of_bases layers.old.items)
-        → LeavesHistory (AreFilesOf (W.outside site.new).folder) result (history_of_bases layers.old.items) (step_of (state_of layers.old.items last.old) (Command.Base body.now)).state.history }
-    ensures why { IfErr result IsStepStop }
+    requires sound { IsSound layers.old.items last.old }
+    requires next { IsNextLayer (history_of layers.old.items) layer }
+    ensures sound { IsSound layers.new.items last.new }
+    ensures does { Does (state_of layers.old.items last.old) (makes (state_of layers.old.items last.old) (record_of layer)) result
+        (state_of layers.new.items last.new) (W.outside site.old) (W.outside site.new) }
     ensures untouched { result ≡ Err Stop.Memory → site.new ≡ site.old }
-    ensures free { 2 ^ 32 ≤ next_number (history_of_bases layers.old.items) → IfErr result (λ stop. stop ≡ Stop.Memory → ⊥) }
-    ensures disk { CountsFault (is_err_and is_disk_fault result) (W.outside site.old).disk_faults (W.outside site.new).disk_faults }
-    ensures say { CountsFault (is_err_and is_output_fault result) (W.outside site.old).say_faults (W.outside site.new).say_faults }
-    ensures tells { KeepsTelling (W.outside site.old) (W.outside site.new) }
 {
-    match make(alloc, layers.as_slice(), body) {
+    match file_of(alloc, layers.as_slice(), &layer) {
         Err(_) => Err(Stop::Memory),
         Ok(None) => refuse(site, &Refusal::Full),
-        Ok(Some(made)) => {
+        Ok(Some(file)) => {
             if layers.reserve(1).is_err() {
                 return Err(Stop::Memory);
             }
-            publish(layers, last, site, made)
+            publish(layers, last, site, layer, file.as_slice())
         }
     }
 }
 
+/// The file of a layer, and none where no number is left for one of its terms.
+fn file_of(
+    alloc: Global,
+    layers: &[PlainLayer],
+    layer: &PlainLayer,
+) -> Result<Option<Vec<u8>>, AllocError>
+    requires history { AreHistory layers.now }
+    requires next { IsNextLayer (history_of layers.now) layer.now }
+    ensures full { IfOk result (λ file. MatchOption file
+        (is_counted_at (with_layer (history_of layers.now) (record_of layer.now)) layer.now.number ≡ false)
+        (λ _. is_counted_at (with_layer (history_of layers.now) (record_of layer.now)) layer.now.number ≡ true)) }
+    ensures file { IfOk result (λ file. MatchOption file (Unit {0})
+        (λ file. (file.items ≡ plain_file layer.now.number layer.now.parent layer.now.additions.items layer.now.removals.items)
+        × AreHistory (layers.now ++ layer.now ∷ []))) }
+{
+    let totals = totals_after(alloc, layers, layer.parent, layer.additions.as_slice())?;
+    if !have_numbers(totals) {
+        return Ok(None);
+    }
+    Ok(Some(write_plain(alloc, layer)?))
+}
+
+/// Whether so many terms and predicates have numbers.
+fn have_numbers(totals: Totals) -> bool
+    ensures { result ≡ (nat_lt totals.terms (2 ^ 32) && nat_lt totals.predicates (2 ^ 32)) }
+{
+    totals.terms <= GREATEST && totals.predicates <= GREATEST
+}
+
 /// Gives the folder the file of a layer, then keeps the layer, then says its reply.
 fn publish<W: Site>(
-    layers: &mut Vec<BaseLayer>,
+    layers: &mut Vec<PlainLayer>,
     last: &mut Option<u32>,
     site: &mut W,
-    made: NewBase,
+    layer: PlainLayer,
+    file: &[u8],
 ) -> Result<Kind, Stop>
     requires { vec_len layers.old < vec_capacity layers.old }
-    ensures layers { MatchResult result (λ kind. (kind ≡ Kind.Done) × AddsBase made.loaded layers.old.items last.old layers.new.items last.new)
-        (λ _. AddsBase made.loaded layers.old.items last.old layers.new.items last.new ⊎ KeepsAll layers.old.items last.old layers.new.items last.new) }
+    ensures layers { MatchResult result (λ kind. (kind ≡ Kind.Done) × AddsLayerTo layer layers.old.items layers.new.items last.new)
+        (λ _. AddsLayerTo layer layers.old.items layers.new.items last.new ⊎ KeepsLayers layers.old.items last.old layers.new.items last.new) }
     ensures told { IsTrue (W.outside site.old).tells_output
-        → LeavesTold result (reply_text (Reply.Layer made.loaded.number)) (W.outside site.old).told (W.outside site.new).told }
+        → LeavesTold result (reply_text (Reply.Layer layer.number)) (W.outside site.old).told (W.outside site.new).told }
     ensures folder { IsTrue (W.outside site.old).tells_folder
-        → LeavesFiles result (replaced (W.outside site.old).folder (layer_name made.loaded.number) made.file.items) (W.outside site.old).folder (W.outside site.new).folder }
+        → LeavesReplaced result (layer_name layer.number) file.now (W.outside site.old).folder (W.outside site.new).folder }
     ensures why { IfErr result (λ stop. (stop ≡ Stop.DiskFault) ⊎ (stop ≡ Stop.OutputFault)) }
     ensures disk { CountsFault (is_err_and is_disk_fault result) (W.outside site.old).disk_faults (W.outside site.new).disk_faults }
     ensures say { CountsFault (is_err_and is_output_fault result) (W.outside site.old).say_faults (W.outside site.new).say_faults }
     ensures tells { KeepsTelling (W.outside site.old) (W.outside site.new) }
 {
-    let number = made.loaded.number;
-    if replace(site, &layer_file(number), &made.file).is_err() {
+    let number = layer.number;
+    if replace(site, &layer_file(number), file).is_err() {
         return Err(Stop::DiskFault);
     }
-    push_layer(layers, made.loaded);
+    push_layer(layers, layer);
     *last = Some(number);
     reply(site, &Reply::Layer(number))
 }
 
 /// Keeps a layer for which there is room.
-fn push_layer(layers: &mut Vec<BaseLayer>, loaded: BaseLayer)
+fn push_layer(layers: &mut Vec<PlainLayer>, layer: PlainLayer)
     requires { vec_len layers.old < vec_capacity layers.old }
-    ensures { layers.new.items ≡ layers.old.items ++ loaded ∷ [] }
+    ensures { layers.new.items ≡ layers.old.items ++ layer ∷ [] }
 {
-    match layers.push(loaded) {
+    match layers.push(layer) {
         Ok(()) => {}
         Err(_) => unreachable!(),
     }

@@ -1,80 +1,154 @@
 // What is asked of a layer.
-ghost use Rattle.std.specs.Prelude.{◌≡◌, IfOk, IfErr, None, IsTrue};
-ghost use Rattle.ts_site.specs.Faults.{is_err_and};
-ghost use Rattle.ts_site.specs.Outside.{OnlySays};
-ghost use Rattle.ts_store.specs.StepParts.{IsQueryStop, IsNewest, state_of};
-ghost use Rattle.ts_store.specs.BaseLayers.{AreBaseLayers};
-ghost use Rattle.ts_store.specs.Step.{has_text, resolve as layer_of, step_of};
-ghost use Rattle.ts_store.specs.Leaves.{LeavesTold};
-ghost use Rattle.ts_store.specs.Stops.{is_output_fault, kind_of};
+ghost use Rattle.std.specs.Prelude.{◌≡◌, IfErr, None, false};
+ghost use Rattle.std.specs.List.Sorted.{IsStrictlySortedBy};
+ghost use Rattle.ts_model.specs.Listing.{in_birth_order, select};
+ghost use Rattle.ts_model.specs.Order.{triple_cmp};
+ghost use Rattle.ts_model.specs.Sets.{from_list};
+ghost use Rattle.ts_plain.specs.Chain.{StandsIn};
+ghost use Rattle.ts_plain.specs.History.{AreHistory, history_of};
+ghost use Rattle.ts_store.specs.Does.{Answers, IsQueryStop};
+ghost use Rattle.ts_store.specs.Step.{has_text, listing_text, resolve, step_of};
 
 use crate::answer::{refuse, reply};
-use crate::base_layer::BaseLayer;
-use crate::find::resolve;
-use crate::listing::list;
-use crate::order::has;
+use crate::find::find;
+use crate::listing::{list, list_all};
+use crate::store::Store;
 use crate::{Kind, Stop};
 use std::alloc::Global;
 use ts_model::{Pattern, Triple};
+use ts_plain::{PlainLayer, changes_of, holds, listing_of};
 use ts_script::{Command, LayerRef, Ref, Refusal, Reply};
 use ts_site::{Disk, Site};
 
 /// Lists the triples of a layer that fit.
 pub(crate) fn list_at<W: Site>(
     alloc: Global,
-    layers: &[BaseLayer],
-    last: Option<u32>,
+    store: &Store,
     site: &mut W,
     named: LayerRef,
     pattern: &Pattern,
 ) -> Result<Kind, Stop>
-    requires loaded { AreBaseLayers layers.now }
-    requires newest { IsNewest layers.now last }
-    ensures kind { IfOk result (λ kind. kind ≡ kind_of (step_of (state_of layers.now last) (Command.Listing (Ref.Layer named) pattern.now)).refused) }
-    ensures told { IsTrue (W.outside site.old).tells_output
-        → LeavesTold result (step_of (state_of layers.now last) (Command.Listing (Ref.Layer named) pattern.now)).told (W.outside site.old).told (W.outside site.new).told }
+    ensures answers { let stepped = step_of store.now (Command.Listing (Ref.Layer named) pattern.now) in
+        Answers stepped.told stepped.refused result (W.outside site.old) (W.outside site.new) }
     ensures why { IfErr result IsQueryStop }
-    ensures free { layer_of (state_of layers.now last) named ≡ None → IfErr result (λ stop. stop ≡ Stop.Memory → ⊥) }
-    ensures says { OnlySays (is_err_and is_output_fault result) (W.outside site.old) (W.outside site.new) }
+    ensures free { resolve store.now named ≡ None → IfErr result (λ stop. stop ≡ Stop.Memory → ⊥) }
 {
-    match resolve(layers, last, named) {
-        Some(layer) => list(alloc, site, layer.triples.as_slice(), pattern),
+    match find(store, named) {
+        Some(layer) => list_layer(alloc, store.layers.as_slice(), site, layer, pattern),
         None => refuse(site, &Refusal::NoLayer(named)),
     }
 }
 
-/// Tells whether a layer has a triple.
+fn list_layer<W: Site>(
+    alloc: Global,
+    layers: &[PlainLayer],
+    site: &mut W,
+    layer: &PlainLayer,
+    pattern: &Pattern,
+) -> Result<Kind, Stop>
+    requires history { AreHistory layers.now }
+    requires stands { StandsIn (history_of layers.now) layer.now }
+    ensures answers { Answers (listing_text (select (history_of layers.now) layer.now.number pattern.now)) false result (W.outside site.old) (W.outside site.new) }
+    ensures why { IfErr result IsQueryStop }
+{
+    match listing_of(alloc, layers, layer.number) {
+        Ok(triples) => list(alloc, site, triples.as_slice(), pattern),
+        Err(_) => Err(Stop::Memory),
+    }
+}
+
+/// Tells whether a layer has a triple. It takes no memory.
 pub(crate) fn has_at<W: Site>(
-    layers: &[BaseLayer],
-    last: Option<u32>,
+    store: &Store,
     site: &mut W,
     named: LayerRef,
     triple: &Triple,
 ) -> Result<Kind, Stop>
-    requires loaded { AreBaseLayers layers.now }
-    requires newest { IsNewest layers.now last }
-    ensures kind { IfOk result (λ kind. kind ≡ kind_of (step_of (state_of layers.now last) (Command.Has (Ref.Layer named) triple.now)).refused) }
-    ensures told { IsTrue (W.outside site.old).tells_output
-        → LeavesTold result (step_of (state_of layers.now last) (Command.Has (Ref.Layer named) triple.now)).told (W.outside site.old).told (W.outside site.new).told }
+    ensures answers { let stepped = step_of store.now (Command.Has (Ref.Layer named) triple.now) in
+        Answers stepped.told stepped.refused result (W.outside site.old) (W.outside site.new) }
     ensures why { IfErr result (λ stop. stop ≡ Stop.OutputFault) }
-    ensures says { OnlySays (is_err_and is_output_fault result) (W.outside site.old) (W.outside site.new) }
 {
-    match resolve(layers, last, named) {
-        Some(layer) => say_has(site, has(layer.triples.as_slice(), triple)),
+    match find(store, named) {
+        Some(layer) => say_has(site, holds(store.layers.as_slice(), layer.number, triple)),
         None => refuse(site, &Refusal::NoLayer(named)),
     }
 }
 
 fn say_has<W: Site>(site: &mut W, has: bool) -> Result<Kind, Stop>
-    ensures kind { IfOk result (λ kind. kind ≡ Kind.Done) }
-    ensures told { IsTrue (W.outside site.old).tells_output
-        → LeavesTold result (has_text has) (W.outside site.old).told (W.outside site.new).told }
+    ensures answers { Answers (has_text has) false result (W.outside site.old) (W.outside site.new) }
     ensures why { IfErr result (λ stop. stop ≡ Stop.OutputFault) }
-    ensures says { OnlySays (is_err_and is_output_fault result) (W.outside site.old) (W.outside site.new) }
 {
     if has {
         reply(site, &Reply::Yes)
     } else {
         reply(site, &Reply::No)
+    }
+}
+
+/// Lists the triples that a layer adds to its parent.
+pub(crate) fn added_at<W: Site>(
+    alloc: Global,
+    store: &Store,
+    site: &mut W,
+    named: LayerRef,
+) -> Result<Kind, Stop>
+    ensures answers { let stepped = step_of store.now (Command.Added named) in
+        Answers stepped.told stepped.refused result (W.outside site.old) (W.outside site.new) }
+    ensures why { IfErr result IsQueryStop }
+    ensures free { resolve store.now named ≡ None → IfErr result (λ stop. stop ≡ Stop.Memory → ⊥) }
+{
+    match find(store, named) {
+        Some(layer) => list_changes(
+            alloc,
+            store.layers.as_slice(),
+            site,
+            layer,
+            layer.additions.as_slice(),
+        ),
+        None => refuse(site, &Refusal::NoLayer(named)),
+    }
+}
+
+/// Lists the triples of its parent that a layer removes.
+pub(crate) fn removed_at<W: Site>(
+    alloc: Global,
+    store: &Store,
+    site: &mut W,
+    named: LayerRef,
+) -> Result<Kind, Stop>
+    ensures answers { let stepped = step_of store.now (Command.Removed named) in
+        Answers stepped.told stepped.refused result (W.outside site.old) (W.outside site.new) }
+    ensures why { IfErr result IsQueryStop }
+    ensures free { resolve store.now named ≡ None → IfErr result (λ stop. stop ≡ Stop.Memory → ⊥) }
+{
+    match find(store, named) {
+        Some(layer) => list_changes(
+            alloc,
+            store.layers.as_slice(),
+            site,
+            layer,
+            layer.removals.as_slice(),
+        ),
+        None => refuse(site, &Refusal::NoLayer(named)),
+    }
+}
+
+/// Lists some rising triples in birth order at a layer.
+fn list_changes<W: Site>(
+    alloc: Global,
+    layers: &[PlainLayer],
+    site: &mut W,
+    layer: &PlainLayer,
+    own: &[Triple],
+) -> Result<Kind, Stop>
+    requires history { AreHistory layers.now }
+    requires stands { StandsIn (history_of layers.now) layer.now }
+    requires rise { IsStrictlySortedBy triple_cmp own.now }
+    ensures answers { Answers (listing_text (in_birth_order (history_of layers.now) layer.now.number (from_list own.now))) false result (W.outside site.old) (W.outside site.new) }
+    ensures why { IfErr result IsQueryStop }
+{
+    match changes_of(alloc, layers, layer.number, own) {
+        Ok(triples) => list_all(alloc, site, triples.as_slice()),
+        Err(_) => Err(Stop::Memory),
     }
 }

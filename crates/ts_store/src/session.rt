@@ -1,16 +1,12 @@
 // An open folder.
 ghost use Rattle.std.specs.Prelude.{◌≡◌, ℕ, List, None, Some, Err, IsTrue, IfOk, IfErr, option_map, false};
 ghost use Rattle.ts_site.specs.Faults.{CountsFault, is_err_and};
-ghost use Rattle.ts_site.specs.Outside.{OnlyReads};
-ghost use Rattle.std.proofs.Props.{props};
-ghost use Rattle.std.specs.List.Sorted.{IsStrictlySortedBy-prop};
-ghost use Rattle.ts_store.specs.StepParts.{IsNewest};
-ghost use Rattle.ts_store.specs.BaseLayers.{AreBaseLayers};
+ghost use Rattle.ts_site.specs.Outside.{OnlyReads, OnlySays};
 
-use crate::base_layer::BaseLayer;
 use crate::dispatch::dispatch;
 use crate::open::read_folder;
 use crate::stop::stop_of;
+use crate::store::Store;
 use crate::{Kind, Stop};
 use std::alloc::Global;
 use ts_script::Command;
@@ -21,21 +17,17 @@ use ts_site::{Disk, Site};
 #[derive(Drop)]
 pub struct Session {
     alloc: Global,
-    layers: Vec<BaseLayer>,
-    last: Option<u32>,
+    store: Store,
     spent: Option<Stop>,
-    ghost loaded: { AreBaseLayers layers.items } by { Prim.hlevel (props, IsStrictlySortedBy-prop) },
-    ghost newest: { IsNewest layers.items last } by { Prim.hlevel props },
 }
 
 impl Session {
-    ghost use Rattle.ts_store.specs.Keeps.{Keeps, spent_by};
-    ghost use Rattle.ts_store.specs.State.{State};
     ghost use Rattle.ts_store.specs.FolderSays.{FolderSays, IsFirstDamaged};
     ghost use Rattle.ts_store.specs.Keeps.{Keeps, spent_by};
     ghost use Rattle.ts_store.specs.Leaves.{LeavesFolder, LeavesState, LeavesTold};
-    ghost use Rattle.ts_store.specs.Memory.{TakesNoMemory, is_listing};
+    ghost use Rattle.ts_store.specs.Memory.{NeedsNoFile, TakesNoMemory, is_listing};
     ghost use Rattle.ts_store.specs.Stands.{Stands};
+    ghost use Rattle.ts_store.specs.State.{State};
     ghost use Rattle.ts_store.specs.Stops.{IsOpeningStop, IsStepStop, KeepsTelling, is_disk_fault, is_output_fault, kind_of, spent_after};
     ghost use Rattle.ts_store.specs.Step.{step_of};
     ghost use Rattle.ts_store.specs.declared.stop.Stop.TheVariants.{Damaged, Memory};
@@ -53,10 +45,9 @@ impl Session {
     {
         match read_folder(alloc, site) {
             Err(stop) => Err(stop),
-            Ok(layers) => Ok(Session {
+            Ok(store) => Ok(Session {
                 alloc,
-                layers,
-                last: None,
+                store,
                 spent: None,
             }),
         }
@@ -81,9 +72,11 @@ impl Session {
             → LeavesState (Stands (W.outside site.new).folder) result state (step_of state command.now).state }
         ensures why { spent_by self.old ≡ None → IfErr result IsStepStop }
 
-        // Only a listing may have said something when memory runs out, and a step that is refused before it loads takes none.
+        // Only a listing may have said something when memory runs out, and a step that is refused before it loads takes none. One
+        // that needs no file works on the output alone.
         ensures untouched { spent_by self.old ≡ None → is_listing command.now ≡ false → result ≡ Err Memory → site.new ≡ site.old }
         ensures free { (state : State) → Keeps self.old state → TakesNoMemory state command.now → IfErr result (λ stop. stop ≡ Memory → ⊥) }
+        ensures alone { spent_by self.old ≡ None → NeedsNoFile command.now → OnlySays (is_err_and is_output_fault result) (W.outside site.old) (W.outside site.new) }
         ensures spends { spent_by self.old ≡ None → spent_by self.new ≡ spent_after result }
         ensures spent { (stop : Stop) → spent_by self.old ≡ Some stop → (result ≡ Err stop) × (site.new ≡ site.old) × (spent_by self.new ≡ Some stop) }
         ensures disk { spent_by self.old ≡ None → CountsFault (is_err_and is_disk_fault result) (W.outside site.old).disk_faults (W.outside site.new).disk_faults }
@@ -93,7 +86,7 @@ impl Session {
         if let Some(stop) = &self.spent {
             return Err(stop.copy());
         }
-        let done = dispatch(self.alloc, &mut self.layers, &mut self.last, site, command);
+        let done = dispatch(self.alloc, &mut self.store, site, command);
         self.spent = stop_of(&done);
         done
     }

@@ -1,6 +1,5 @@
 ghost use Rattle.std.specs.Prelude.{◌≡◌, [], IfOk};
 ghost use Rattle.ts_site.specs.MemorySite.{memory_calls};
-ghost use Rattle.ts_store.specs.Files.{file_of};
 
 use crate::{Kind, Session, Stop};
 use std::alloc::Global;
@@ -47,14 +46,19 @@ fn has(alloc: Global, at: LayerRef, text: &[u8]) -> Result<Command, Fail> {
     })
 }
 
-fn file_of<'a>(site: &'a MemorySite, name: &[u8]) -> Result<Option<&'a [u8]>, Fail> {
-    Ok(site.file(&FileName::of(name).ok_or("name")?))
+/// Whether a file of the folder has these bytes, or is absent.
+fn reads(site: &MemorySite, name: &[u8], bytes: Option<&[u8]>) -> bool {
+    match FileName::of(name) {
+        Some(name) => site.file(&name) == bytes,
+        None => false,
+    }
 }
 
 /// A folder with one file.
 fn folder_with(alloc: Global, name: &[u8], file: &[u8]) -> Result<MemorySite, Fail> {
+    let name = FileName::of(name).ok_or("name")?;
     let mut site = MemorySite::new(alloc, ROOM, ROOM)?;
-    site.put_file(&FileName::of(name).ok_or("name")?, file)?;
+    site.put_file(&name, file)?;
     Ok(site)
 }
 
@@ -73,89 +77,129 @@ fn done(session: &mut Session, site: &mut MemorySite, command: &Command) -> Resu
     }
 }
 
-#[test]
-fn a_node_is_listed_before_a_value(rt: HostRuntime) -> Result<(), Fail> {
-    let alloc = rt.alloc();
+/// Makes a base of these lines.
+fn make(
+    alloc: Global,
+    session: &mut Session,
+    site: &mut MemorySite,
+    lines: &[&[u8]],
+) -> Result<(), Fail> {
+    let body = base(alloc, lines)?;
+    done(session, site, &body)
+}
+
+/// Asks whether a layer has the triple of a line.
+fn ask(
+    alloc: Global,
+    session: &mut Session,
+    site: &mut MemorySite,
+    at: LayerRef,
+    text: &[u8],
+) -> Result<(), Fail> {
+    let command = has(alloc, at, text)?;
+    done(session, site, &command)
+}
+
+/// An empty folder after a base of these lines and its listing.
+fn made_and_listed(alloc: Global, lines: &[&[u8]]) -> Result<MemorySite, Fail> {
     let mut site = MemorySite::new(alloc, ROOM, ROOM)?;
     let mut session = open(alloc, &mut site)?;
-    let body = base(
-        alloc,
+    make(alloc, &mut session, &mut site, lines)?;
+    done(&mut session, &mut site, &list(LayerRef::Last))?;
+    Ok(site)
+}
+
+#[test]
+fn a_node_is_listed_before_a_value(rt: HostRuntime) -> Result<(), Fail> {
+    let site = made_and_listed(
+        rt.alloc(),
         &[b"<a> <p> \"x\" .", b"<a> <p> <b> .", b"<a> <p> _:b ."],
     )?;
-    done(&mut session, &mut site, &body)?;
-    done(&mut session, &mut site, &list(LayerRef::Last))?;
     assert_eq!(rt;
         site.told(),
         b"layer 00000001\n<a> <p> <b> .\n<a> <p> _:b .\n<a> <p> \"x\" .\ntotal 3\n".as_slice()
     );
-    assert_eq!(rt;
-        file_of(&site, b"00000001.layer")?,
-        Some(
-            b"plain 00000001 none\n+ <a> <p> \"x\" .\n+ <a> <p> <b> .\n+ <a> <p> _:b .\n".as_slice()
+    assert!(rt;
+        reads(
+            &site,
+            b"00000001.layer",
+            Some(b"plain 00000001 none\n+ <a> <p> \"x\" .\n+ <a> <p> <b> .\n+ <a> <p> _:b .\n")
         )
     );
     Ok(())
 }
 
+/// The folder of a layer 7 with this file after one was asked of each of these lines.
+fn asked_of_seven(alloc: Global, file: &[u8], lines: &[&[u8]]) -> Result<MemorySite, Fail> {
+    let mut site = folder_with(alloc, b"00000007.layer", file)?;
+    let mut session = open(alloc, &mut site)?;
+    for text in lines {
+        ask(alloc, &mut session, &mut site, LayerRef::Number(7), text)?;
+    }
+    Ok(site)
+}
+
 #[test]
 fn a_layer_has_its_triples(rt: HostRuntime) -> Result<(), Fail> {
-    let alloc = rt.alloc();
-    let mut site = folder_with(
-        alloc,
-        b"00000007.layer",
+    let site = asked_of_seven(
+        rt.alloc(),
         b"plain 00000007 none\n+ <p> <p> <q> .\n",
-    )?;
-    let mut session = open(alloc, &mut site)?;
-    let seven = LayerRef::Number(7);
-    done(
-        &mut session,
-        &mut site,
-        &has(alloc, seven, b"<p> <p> <q> .")?,
-    )?;
-    done(
-        &mut session,
-        &mut site,
-        &has(alloc, seven, b"<q> <p> <p> .")?,
-    )?;
-    done(
-        &mut session,
-        &mut site,
-        &has(alloc, seven, b"<p> <p> \"<q>\" .")?,
+        &[b"<p> <p> <q> .", b"<q> <p> <p> .", b"<p> <p> \"<q>\" ."],
     )?;
     assert_eq!(rt; site.told(), b"yes\nno\nno\n".as_slice());
     Ok(())
 }
 
-#[test]
-fn the_next_layer_has_the_next_number(rt: HostRuntime) -> Result<(), Fail> {
-    let alloc = rt.alloc();
+/// The folder of an empty layer 7 after a base of these lines.
+fn made_after_seven(alloc: Global, lines: &[&[u8]]) -> Result<MemorySite, Fail> {
     let mut site = folder_with(alloc, b"00000007.layer", b"plain 00000007 none\n")?;
     let mut session = open(alloc, &mut site)?;
-    let body = base(alloc, &[b"<a> <p> <b> ."])?;
-    done(&mut session, &mut site, &body)?;
+    make(alloc, &mut session, &mut site, lines)?;
+    Ok(site)
+}
+
+#[test]
+fn the_next_layer_has_the_next_number(rt: HostRuntime) -> Result<(), Fail> {
+    let site = made_after_seven(rt.alloc(), &[b"<a> <p> <b> ."])?;
     assert_eq!(rt; site.told(), b"layer 00000008\n".as_slice());
-    assert_eq!(rt;
-        file_of(&site, b"00000008.layer")?,
-        Some(b"plain 00000008 none\n+ <a> <p> <b> .\n".as_slice())
+    assert!(rt;
+        reads(
+            &site,
+            b"00000008.layer",
+            Some(b"plain 00000008 none\n+ <a> <p> <b> .\n")
+        )
     );
     Ok(())
 }
 
+/// Whether a command is refused.
+fn is_refused(session: &mut Session, site: &mut MemorySite, command: &Command) -> bool {
+    matches!(session.step(site, command), Ok(Kind::Refused))
+}
+
+/// Whether a base without lines is refused.
+fn is_base_refused(
+    alloc: Global,
+    session: &mut Session,
+    site: &mut MemorySite,
+) -> Result<bool, Fail> {
+    let body = base(alloc, &[])?;
+    Ok(is_refused(session, site, &body))
+}
+
 #[test]
 fn refusals(rt: HostRuntime) -> Result<(), Fail> {
-    let alloc = rt.alloc();
-    let mut site = folder_with(alloc, b"ffffffff.layer", b"plain ffffffff none\n")?;
-    let mut session = open(alloc, &mut site)?;
-    let body = base(alloc, &[])?;
+    let mut site = folder_with(rt.alloc(), b"ffffffff.layer", b"plain ffffffff none\n")?;
+    let mut session = open(rt.alloc(), &mut site)?;
     for command in [
-        list(LayerRef::Last),
-        list(LayerRef::Number(1)),
-        Command::BadTriple { line: 3 },
-        Command::TooLong { line: 4 },
-        body,
+        &list(LayerRef::Last),
+        &list(LayerRef::Number(1)),
+        &Command::BadTriple { line: 3 },
+        &Command::TooLong { line: 4 },
     ] {
-        assert!(rt; matches!(session.step(&mut site, &command), Ok(Kind::Refused)));
+        assert!(rt; is_refused(&mut session, &mut site, command));
     }
+    assert!(rt; is_base_refused(rt.alloc(), &mut session, &mut site)?);
     assert_eq!(rt;
         site.told(),
         b"refused no-layer last\nrefused no-layer 00000001\nrefused bad-triple 3\nrefused too-long 4\nrefused full\n".as_slice()
@@ -175,15 +219,30 @@ fn is_damaged(alloc: Global, name: &[u8], file: &[u8]) -> Result<bool, Fail> {
 
 #[test]
 fn files_that_are_not_what_their_names_say(rt: HostRuntime) -> Result<(), Fail> {
-    let alloc = rt.alloc();
-    let whole = b"plain 00000001 none\n+ <a> <p> <b> .\n".as_slice();
-    assert!(rt; !is_damaged(alloc, b"00000001.layer", whole)?);
-    assert!(rt; is_damaged(alloc, b"00000001.layer", &whole[..whole.len() - 1])?);
-    assert!(rt; is_damaged(alloc, b"00000002.layer", whole)?);
-    assert!(rt; is_damaged(alloc, b"00000002.layer", b"plain 00000002 00000001\n")?);
-    assert!(rt; is_damaged(alloc, b"00000001.rollup", b"")?);
-    assert!(rt; is_damaged(alloc, b"main.label", b"")?);
-    assert!(rt; !is_damaged(alloc, b"other", b"")?);
+    for (name, file, wanted) in [
+        (
+            "00000001.layer",
+            "plain 00000001 none\n+ <a> <p> <b> .\n",
+            false,
+        ),
+        (
+            "00000001.layer",
+            "plain 00000001 none\n+ <a> <p> <b> .",
+            true,
+        ),
+        (
+            "00000002.layer",
+            "plain 00000001 none\n+ <a> <p> <b> .\n",
+            true,
+        ),
+        ("00000002.layer", "plain 00000002 00000001\n", true),
+        ("00000001.rollup", "", true),
+        ("main.label", "", true),
+        ("other", "", false),
+    ] {
+        let seen = is_damaged(rt.alloc(), name.as_bytes(), file.as_bytes())?;
+        assert_eq!(rt; seen, wanted, "{name}");
+    }
     Ok(())
 }
 
@@ -226,63 +285,40 @@ fn base_stops(
     site.fail(kind, 1, how)?;
     let right = is_stopped(&mut session, &mut site, &body, with_output);
     let spent = is_spent(&mut session, &mut site, &body, with_output);
-    let stands = file_of(&site, b"00000001.layer")?.is_some();
-    Ok(right && spent && stands == placed && site.told() == told)
+    let file = b"plain 00000001 none\n+ <a> <p> <b> .\n".as_slice();
+    let stands = reads(
+        &site,
+        b"00000001.layer",
+        if placed { Some(file) } else { None },
+    );
+    Ok(right && spent && stands && site.told() == told)
 }
 
 #[test]
 fn each_call_of_a_base_fails(rt: HostRuntime) -> Result<(), Fail> {
-    let alloc = rt.alloc();
-    for kind in [
-        CallKind::Create,
-        CallKind::Append,
-        CallKind::Sync,
-        CallKind::Rename,
+    for (kind, how, with_output, placed, told) in [
+        (CallKind::Create, FaultKind::Nothing, false, false, ""),
+        (CallKind::Append, FaultKind::Nothing, false, false, ""),
+        (CallKind::Append, FaultKind::Half, false, false, ""),
+        (CallKind::Sync, FaultKind::Nothing, false, false, ""),
+        (CallKind::Rename, FaultKind::Nothing, false, false, ""),
+        (CallKind::Rename, FaultKind::Happened, false, true, ""),
+        (CallKind::SyncNames, FaultKind::Nothing, false, true, ""),
+        (CallKind::Say, FaultKind::Nothing, true, true, ""),
+        (CallKind::Say, FaultKind::Half, true, true, "layer 0"),
+        (
+            CallKind::Say,
+            FaultKind::Happened,
+            true,
+            true,
+            "layer 00000001\n",
+        ),
     ] {
-        assert!(rt; base_stops(alloc, kind, FaultKind::Nothing, false, false, b"")?);
+        assert!(rt;
+            base_stops(rt.alloc(), kind, how, with_output, placed, told.as_bytes())?,
+            "{kind:?} {how:?}"
+        );
     }
-    assert!(rt; base_stops(alloc, CallKind::Append, FaultKind::Half, false, false, b"")?);
-    assert!(rt;
-        base_stops(
-            alloc,
-            CallKind::Rename,
-            FaultKind::Happened,
-            false,
-            true,
-            b""
-        )?
-    );
-    assert!(rt;
-        base_stops(
-            alloc,
-            CallKind::SyncNames,
-            FaultKind::Nothing,
-            false,
-            true,
-            b""
-        )?
-    );
-    assert!(rt; base_stops(alloc, CallKind::Say, FaultKind::Nothing, true, true, b"")?);
-    assert!(rt;
-        base_stops(
-            alloc,
-            CallKind::Say,
-            FaultKind::Half,
-            true,
-            true,
-            b"layer 0"
-        )?
-    );
-    assert!(rt;
-        base_stops(
-            alloc,
-            CallKind::Say,
-            FaultKind::Happened,
-            true,
-            true,
-            b"layer 00000001\n"
-        )?
-    );
     Ok(())
 }
 
@@ -296,13 +332,17 @@ fn asking_stops(alloc: Global, command: &Command, told: &[u8]) -> Result<bool, F
     Ok(right && site.told() == told)
 }
 
+/// Whether a question for the triple of a line is stopped by the output, with so much of the reply told.
+fn having_stops(alloc: Global, text: &[u8], told: &[u8]) -> Result<bool, Fail> {
+    let command = has(alloc, LayerRef::Number(1), text)?;
+    asking_stops(alloc, &command, told)
+}
+
 #[test]
 fn the_output_fails_at_a_question(rt: HostRuntime) -> Result<(), Fail> {
-    let alloc = rt.alloc();
-    let one = LayerRef::Number(1);
-    assert!(rt; asking_stops(alloc, &list(one), b"<a> <p> <b>")?);
-    assert!(rt; asking_stops(alloc, &has(alloc, one, b"<a> <p> <b> .")?, b"ye")?);
-    assert!(rt; asking_stops(alloc, &has(alloc, one, b"<a> <p> <c> .")?, b"n")?);
+    assert!(rt; asking_stops(rt.alloc(), &list(LayerRef::Number(1)), b"<a> <p> <b>")?);
+    assert!(rt; having_stops(rt.alloc(), b"<a> <p> <b> .", b"ye")?);
+    assert!(rt; having_stops(rt.alloc(), b"<a> <p> <c> .", b"n")?);
     Ok(())
 }
 
@@ -321,18 +361,28 @@ fn used(
     ))
 }
 
+/// The same of the question for the triple of a line.
+fn used_to_ask(
+    alloc: Global,
+    session: &mut Session,
+    site: &mut MemorySite,
+    text: &[u8],
+) -> Result<(u64, u64), Fail> {
+    let command = has(alloc, LayerRef::Number(1), text)?;
+    used(session, site, &command)
+}
+
 #[test]
 fn a_question_makes_one_call(rt: HostRuntime) -> Result<(), Fail> {
-    let alloc = rt.alloc();
     let file = b"plain 00000001 none\n+ <a> <p> <b> .\n";
-    let mut site = folder_with(alloc, b"00000001.layer", file)?;
-    let mut session = open(alloc, &mut site)?;
-    let one = LayerRef::Number(1);
-    let yes = has(alloc, one, b"<a> <p> <b> .")?;
-    let no = has(alloc, one, b"<a> <p> <c> .")?;
-    assert_eq!(rt; used(&mut session, &mut site, &list(one))?, (1, 22));
-    assert_eq!(rt; used(&mut session, &mut site, &yes)?, (1, 4));
-    assert_eq!(rt; used(&mut session, &mut site, &no)?, (1, 3));
+    let mut site = folder_with(rt.alloc(), b"00000001.layer", file)?;
+    let mut session = open(rt.alloc(), &mut site)?;
+    let whole = list(LayerRef::Number(1));
+    assert_eq!(rt; used(&mut session, &mut site, &whole)?, (1, 22));
+    for (text, wanted) in [("<a> <p> <b> .", (1, 4)), ("<a> <p> <c> .", (1, 3))] {
+        let seen = used_to_ask(rt.alloc(), &mut session, &mut site, text.as_bytes())?;
+        assert_eq!(rt; seen, wanted, "{text}");
+    }
     Ok(())
 }
 

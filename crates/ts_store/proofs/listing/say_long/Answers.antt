@@ -1,6 +1,6 @@
 use Rattle.std.proofs.Common.{◌++◌, ◌∙◌, List, ℕ, take, drop, ap}
 use Rattle.ts_store.specs.declared.stop.Stop.TheVariants.{OutputFault}
-use Rattle.ts_store.specs.StepParts.{IsSaidAt}
+use Rattle.ts_store.specs.Listed.{IsSaidAt}
 use Rattle.ts_store.proofs.PrefixLaws.{prefix_taken}
 use Rattle.ts_store.proofs.listing.say_long.Goals as goal
 

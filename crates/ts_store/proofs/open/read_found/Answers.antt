@@ -2,7 +2,7 @@ use Rattle.std.proofs.Common.{◌∙◌, ℕ, List, All, IsTrue, get_or, sym, su
 use Rattle.std.specs.FinMap.{contains_key}
 use Rattle.std.proofs.lemmas.List.Elements.{Contains-get_or}
 use Rattle.ts_replace.specs.Names.{layer_name}
-use Rattle.ts_store.specs.StepParts.{IsFirstOf}
+use Rattle.ts_store.specs.Opened.{IsFirstOf}
 use Rattle.ts_store.proofs.FoundLaws.{first_layer, sound, says_read, other_fault}
 use Rattle.ts_store.proofs.open.read_found.Goals as goal
 
@@ -27,12 +27,12 @@ returns-in-Err-no_others-clause-damaged g c = λ told.
     let ok = c.in-Ok.ensures in
     let those = c.requires.those told in
     other_fault folder found.layers.items found.rollups.items found.labels.items c.in-Err-no_others.stop those c.requires.rise
-    (sound folder found.layers.items found.rollups.items found.labels.items those c.in-Ok.layers.items (ok.numbers ∙ c.as_slice.ensures.value) (ok.says told)) c.in-Err-no_others.ensures.err
+    (sound folder found.layers.items found.rollups.items found.labels.items those c.in-Ok.layers.items ok.history (ok.numbers ∙ c.as_slice.ensures.value) (ok.says told)) c.in-Err-no_others.ensures.err
 
 pub returns-in-Ok-no_others-clause-says : goal.returns-in-Ok-no_others-clause-says
 returns-in-Ok-no_others-clause-says g c = λ told.
     let found = c.args.found.now in
     let folder = (g.W.Disk.outside c.args.site.now).folder in
     let ok = c.in-Ok.ensures in
-    says_read folder found.layers.items found.rollups.items found.labels.items (c.requires.those told) c.in-Ok.layers.items (ok.numbers ∙ c.as_slice.ensures.value) (ok.says told) ok.loaded
+    says_read folder found.layers.items found.rollups.items found.labels.items (c.requires.those told) c.in-Ok.layers.items ok.history (ok.numbers ∙ c.as_slice.ensures.value) (ok.says told)
     c.in-Ok-no_others.ensures.ok.0 c.in-Ok-no_others.ensures.ok.1

@@ -1,15 +1,15 @@
 use Rattle.std.proofs.Common.{◌≡◌, false, All, IsTrue, map, take}
+use Rattle.ts_plain.specs.History.{AreHistory}
 use Rattle.ts_site.specs.Outside.{OnlyReads}
-use Rattle.ts_store.specs.StepParts.{IsReadFrom}
-use Rattle.ts_store.specs.BaseLayers.{IsBaseLayer}
+use Rattle.ts_store.specs.Opened.{IsReadFrom}
 use Rattle.ts_store.proofs.open.read_layers.Given as goal
 
 abbrev pub invariant-loop-number : goal.invariant-loop-number
 invariant-loop-number g l =
     let outside = g.W.Disk.outside in
     record {
-      numbers : map (λ loaded. loaded.number) l.layers.items ≡ take l.number-index l.numbers;
-      loaded : All IsBaseLayer l.layers.items;
+      numbers : map (λ layer. layer.number) l.layers.items ≡ take l.number-index l.numbers;
+      history : AreHistory l.layers.items;
       says : IsTrue (outside l.initial.site).tells_folder → All (IsReadFrom (outside l.initial.site).folder) l.layers.items;
       reads : OnlyReads false (outside l.initial.site) (outside l.site);
     }

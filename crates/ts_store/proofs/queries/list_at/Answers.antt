@@ -1,19 +1,20 @@
-use Rattle.std.proofs.Common.{IsTrue, List, filter, sym, ap, subst, ◌∙◌}
-use Rattle.ts_model.specs.TextTriple.{TextTriple}
-use Rattle.ts_model.specs.Fits.{fits}
-use Rattle.ts_store.specs.Step.{Stepped, does, listing_text}
-use Rattle.ts_store.specs.StepParts.{state_of}
-use Rattle.ts_store.proofs.QueryLaws.{asked_listing}
+use Rattle.std.proofs.Common.{false, ap, subst, ◌∙◌}
+use Rattle.ts_model.specs.History.{History}
+use Rattle.ts_model.specs.Listing.{select}
+use Rattle.ts_plain.specs.History.{history_of}
+use Rattle.ts_store.specs.Does.{Answers}
+use Rattle.ts_store.specs.State.{State}
+use Rattle.ts_store.specs.Step.{does, listing_text}
+use Rattle.ts_store.proofs.AnswerLaws.{answers_found}
 use Rattle.ts_store.proofs.queries.list_at.Goals as goal
-use Rattle.ts_store.specs.Leaves.{LeavesTold}
 
-pub returns-in-Some-clause-told : goal.returns-in-Some-clause-told
-returns-in-Some-clause-told g c =
-    let found = c.in-Some.layer.now in
-    let some = c.in-Some.ensures.some in
+pub returns-in-Some-clause-answers : goal.returns-in-Some-clause-answers
+returns-in-Some-clause-answers g c =
+    let state = c.args.store.now in
     let pattern = c.args.pattern.now in
-    let state = state_of c.args.layers.now c.args.last in
-    let triples = ap (λ (l : List TextTriple). does state (listing_text (filter (fits pattern) l))) c.as_slice.ensures.value in
-    let is = asked_listing c.args.layers.now c.args.last c.args.named found some.0 some.1 some.2 pattern in
-    subst (λ (s : Stepped). IsTrue (g.W.Disk.outside c.args.site.now).tells_output → LeavesTold c.list.result s.told (g.W.Disk.outside c.args.site.now).told (g.W.Disk.outside c.list.new.site).told)
-    (triples ∙ sym is) c.list.ensures.told
+    let k = c.in-Some.layer.now.number in
+    let old = g.W.Disk.outside c.args.site.now in
+    let new = g.W.Disk.outside c.list_layer.new.site in
+    let same = ap history_of c.as_slice.ensures.value ∙ ap (λ (s : State). s.history) c.store.view_is in
+    answers_found c.list_layer.result old new state c.args.named (λ j. does state (listing_text (select state.history j pattern))) k c.in-Some.ensures.some.0
+    (subst (λ (h : History). Answers (listing_text (select h k pattern)) false c.list_layer.result old new) same c.list_layer.ensures.answers)

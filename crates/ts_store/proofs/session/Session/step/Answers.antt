@@ -1,36 +1,31 @@
-use Rattle.std.proofs.Common.{◌≡◌, sym, subst}
-use Rattle.ts_store.specs.StepParts.{state_of}
+use Rattle.std.proofs.Common.{subst, sym}
+use Rattle.ts_store.specs.FolderSays.{FolderSays}
+use Rattle.ts_store.specs.Leaves.{LeavesFolder, LeavesState, LeavesTold}
+use Rattle.ts_store.specs.Stands.{Stands}
 use Rattle.ts_store.specs.State.{State}
 use Rattle.ts_store.specs.Step.{step_of}
 use Rattle.ts_store.proofs.StandsLaws.{stands_after}
-use Rattle.ts_store.proofs.StateLaws.{files_of, folder_leaves, says_leaves}
 use Rattle.ts_store.proofs.session.Session.step.Goals as goal
-use Rattle.ts_store.specs.FolderSays.{FolderSays}
-use Rattle.ts_store.specs.Leaves.{LeavesFolder, LeavesState}
-use Rattle.ts_store.specs.Stands.{Stands}
+
+pub returns-clause-told : goal.returns-clause-told
+returns-clause-told g c = λ state keeps told.
+    subst (λ (s : State). LeavesTold c.dispatch-done.result (step_of s c.args.command.now).told (g.W.Disk.outside c.args.site.now).told (g.W.Disk.outside c.dispatch-done.new.site).told) keeps.store (c.dispatch-done.ensures.does.told told)
 
 pub returns-clause-folder : goal.returns-clause-folder
 returns-clause-folder g c = λ state keeps told.
-    let old = (g.W.Disk.outside c.args.site.now).folder in
-    let new = (g.W.Disk.outside c.dispatch-done.new.site).folder in
-    subst (λ (s : State). LeavesFolder c.dispatch-done.result s (step_of s c.args.command.now).state old new) keeps.kept
-    (folder_leaves (state_of c.args.self.now.layers.items c.args.self.now.last) old new c.dispatch-done.result c.args.command.now (c.dispatch-done.ensures.folder told))
+    subst (λ (s : State). LeavesFolder c.dispatch-done.result s (step_of s c.args.command.now).state (g.W.Disk.outside c.args.site.now).folder (g.W.Disk.outside c.dispatch-done.new.site).folder) keeps.store (c.dispatch-done.ensures.does.folder told)
 
 pub returns-clause-says : goal.returns-clause-says
 returns-clause-says g c = λ state keeps told says.
-    let kept = state_of c.args.self.now.layers.items c.args.self.now.last in
     let old = (g.W.Disk.outside c.args.site.now).folder in
     let new = (g.W.Disk.outside c.dispatch-done.new.site).folder in
-    let before = files_of old kept (subst (FolderSays old) (sym keeps.kept) says) in
-    subst (λ (s : State). LeavesState (FolderSays new) c.dispatch-done.result s (step_of s c.args.command.now).state) keeps.kept
-    (says_leaves new c.dispatch-done.result kept (step_of kept c.args.command.now).state (c.dispatch-done.ensures.says told before))
+    subst (λ (s : State). LeavesState (FolderSays new) c.dispatch-done.result s (step_of s c.args.command.now).state) keeps.store
+    (c.dispatch-done.ensures.does.tells_state told (subst (FolderSays old) (sym keeps.store) says))
 
 pub returns-clause-stands : goal.returns-clause-stands
 returns-clause-stands g c = λ state keeps told stands.
-    let kept = state_of c.args.self.now.layers.items c.args.self.now.last in
     let old = (g.W.Disk.outside c.args.site.now).folder in
     let new = (g.W.Disk.outside c.dispatch-done.new.site).folder in
-    let here = subst (Stands old) (sym keeps.kept) stands in
-    let before = files_of old kept here.says in
-    subst (λ (s : State). LeavesState (Stands new) c.dispatch-done.result s (step_of s c.args.command.now).state) keeps.kept
-    (stands_after kept here.counted old before new c.dispatch-done.result c.args.command.now (c.dispatch-done.ensures.says told before))
+    let here = subst (Stands old) (sym keeps.store) stands in
+    subst (λ (s : State). LeavesState (Stands new) c.dispatch-done.result s (step_of s c.args.command.now).state) keeps.store
+    (stands_after new c.args.self.now.store c.args.command.now here.says.kept here.counted c.dispatch-done.result (c.dispatch-done.ensures.does.tells_state told here.says))

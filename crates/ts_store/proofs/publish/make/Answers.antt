@@ -1,0 +1,34 @@
+use Rattle.std.proofs.Common.{◌≡◌, ◌∷◌, ◌++◌, [], true, List, subst, ◌∙◌}
+use Rattle.ts_plain.specs.declared.write.PlainLayer.{PlainLayer}
+use Rattle.ts_plain.specs.History.{AreHistory, history_of, record_of}
+use Rattle.ts_store.specs.Step.{is_counted_at, makes, with_layer}
+use Rattle.ts_store.specs.Store.{state_of}
+use Rattle.ts_store.proofs.PublishLaws.{does_nothing, does_publish, makes_tells, sound_after}
+use Rattle.ts_store.proofs.publish.make.Goals as goal
+
+pub returns-in-Err-clause-does : goal.returns-in-Err-clause-does
+returns-in-Err-clause-does g c =
+    let before = state_of c.args.layers.now.items c.args.last.now in
+    does_nothing before (makes before (record_of c.args.layer)) before (g.W.Disk.outside c.args.site.now) (makes_tells before (record_of c.args.layer))
+
+pub returns-else-is_err-clause-sound : goal.returns-else-is_err-clause-sound
+returns-else-is_err-clause-sound g c =
+    let layers = c.args.layers.now.items in
+    let layer = c.args.layer in
+    let counted = subst (λ (ls : List PlainLayer). is_counted_at (with_layer (history_of ls) (record_of layer)) layer.number ≡ true) c.as_slice.ensures.value (rw c.in-Ok-Some.field-0-is at c.in-Ok-Some.ensures.full) in
+    let made = rw c.in-Ok-Some.field-0-is at c.in-Ok-Some.ensures.file in
+    sound_after layers c.args.last.now c.requires.sound layer c.requires.next c.as_slice-in-Ok-Some.result.now counted (c.as_slice-in-Ok-Some.ensures.value ∙ made.0)
+    (subst (λ (ls : List PlainLayer). AreHistory (ls ++ layer ∷ [])) c.as_slice.ensures.value made.1)
+    c.publish.new.layers.items c.publish.new.last c.publish.result (rw c.reserve.ensures.items at c.publish.ensures.layers)
+
+pub returns-else-is_err-clause-does : goal.returns-else-is_err-clause-does
+returns-else-is_err-clause-does g c =
+    let layers = c.args.layers.now.items in
+    let layer = c.args.layer in
+    let counted = subst (λ (ls : List PlainLayer). is_counted_at (with_layer (history_of ls) (record_of layer)) layer.number ≡ true) c.as_slice.ensures.value (rw c.in-Ok-Some.field-0-is at c.in-Ok-Some.ensures.full) in
+    let made = rw c.in-Ok-Some.field-0-is at c.in-Ok-Some.ensures.file in
+    let published = c.publish.ensures in
+    does_publish layers c.args.last.now c.requires.sound layer c.requires.next c.as_slice-in-Ok-Some.result.now counted (c.as_slice-in-Ok-Some.ensures.value ∙ made.0)
+    (subst (λ (ls : List PlainLayer). AreHistory (ls ++ layer ∷ [])) c.as_slice.ensures.value made.1)
+    c.publish.new.layers.items c.publish.new.last c.publish.result (g.W.Disk.outside c.args.site.now) (g.W.Disk.outside c.publish.new.site)
+    (rw c.reserve.ensures.items at published.layers) published.told published.folder published.why published.disk published.say published.tells
