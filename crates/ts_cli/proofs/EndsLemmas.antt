@@ -1,5 +1,5 @@
 -- How a run ends, by the answer of its step or its stop.
-use Rattle.std.proofs.Common.{◌≡◌, ◌⊎◌, ℕ, List, IsTrue, None, Some, Result, Ok, Err, IfOk, IfErr, refl, sym, ◌∙◌, ap, subst, arith, inl, inr}
+use Rattle.std.proofs.Common.{◌≡◌, ◌⊎◌, ℕ, List, Some, Result, Ok, Err, IfOk, IfErr, refl, sym, ◌∙◌, ap, arith, inl, inr}
 use Rattle.ts_site.specs.Faults.{Rose, IsCalm}
 use Rattle.ts_script.specs.declared.command.Command.{Command}
 use Rattle.ts_store.specs.declared.stop.Kind.{Kind}

@@ -2,7 +2,6 @@
 use Rattle.std.proofs.Common.{◌≡◌, ◌⊎◌, ℕ, Bool, true, false, ◌||◌, cond, List, [], ◌∷◌, ◌++◌, IsTrue, None, Some, Result, Ok, Err, inl, inr, refl, sym, ap, ◌∙◌, subst, append-nil}
 use Rattle.ts_store.specs.State.{State}
 use Rattle.ts_store.specs.Step.{step_of}
-use Rattle.ts_store.proofs.StateLaws.{files_of}
 use Rattle.ts_script.specs.Lines.{lines_of}
 use Rattle.ts_script.specs.Commands.{IsCommand}
 use Rattle.ts_script.specs.declared.command.Command.{Command}
@@ -36,7 +35,7 @@ module _ (s : Change) (told_folder : IsTrue s.before.tells_folder) (words : List
   -- the state that the folder tells is this one
   same_state : (other : State) → StepsFrom s wanted answer other → other ≡ state
   same_state other does =
-      let same = same_history s.before.folder other.history state.history (files_of s.before.folder other does.says) (files_of s.before.folder state stands.says) in
+      let same = same_history s.before.folder other state does.says stands.says in
       let last : other.last ≡ state.last = does.fresh ∙ sym fresh in
       λ i. record { history = same i; last = last i }
 
@@ -110,7 +109,7 @@ module _ (s : Change) (told_folder : IsTrue s.before.tells_folder) (words : List
 -- a run that came to its step saw no damaged file, and one that named a file named the first
 module _ (s : Change) (told_folder : IsTrue s.before.tells_folder) (Asked : Command → Type 0) (name : List ℕ) (damaged : IsFirstDamaged s.before.folder name) where
   sound : (answer : Result Kind Stop) → ComesToStep s Asked answer → ⊥
-  sound answer (asked, asks, state, does) = not_damaged s.before.folder state.history name (files_of s.before.folder state does.says) damaged
+  sound answer (asked, asks, state, does) = not_damaged s.before.folder state name does.says damaged
 
   pub damage_found : (answer : Result Kind Stop) → Ends s Asked answer → ((other : List ℕ) → stop_of answer ≡ Some (Damaged other) → IsFirstDamaged s.before.folder other)
       → (stop_of answer ≡ Some (Damaged name)) ⊎ IsBeforeOpening (stop_of answer)

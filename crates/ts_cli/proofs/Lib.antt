@@ -3,3 +3,4 @@ mod EndsLemmas
 mod HeadlineLaws
 mod InputLemmas
 mod StoppedLaws
+mod SquashRows

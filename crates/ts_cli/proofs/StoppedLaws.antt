@@ -1,7 +1,7 @@
 -- The causes of the stops of a run that came to no command.
-use Rattle.std.proofs.Common.{◌≡◌, ◌⊎◌, ℕ, ◌^◌, ◌<◌, ◌≤◌, Bool, true, false, IsTrue, List, length, Option, None, Some, Result, Ok, Err, inl, inr, refl, sym, ap, ◌∙◌, subst, arith}
+use Rattle.std.proofs.Common.{◌≡◌, ◌⊎◌, ℕ, ◌^◌, ◌<◌, Bool, false, IsTrue, List, length, None, Some, Result, Err, inl, inr, refl, sym, ap, ◌∙◌, subst, arith}
 use Rattle.ts_script.specs.Commands.{AwaitBody, IsNoCommand}
-use Rattle.ts_site.specs.Faults.{CountsFault, IsCalm, Rose, is_err_and}
+use Rattle.ts_site.specs.Faults.{CountsFault, IsCalm}
 use Rattle.ts_site.specs.Folder.{Folder}
 use Rattle.ts_store.specs.declared.stop.Stop.{Stop}
 use Rattle.ts_store.specs.declared.stop.Stop.TheVariants.{Usage, Damaged, DiskFault, InputFault, OutputFault, InputLimit, Memory}

@@ -11,22 +11,20 @@ const ROOM: (u64, u64) = (20, 1000);
 /// The file of the first layer.
 const FIRST: &[u8] = b"plain 00000001 none\n+ <a> <p> <b> .\n";
 
-/// The file of the second layer.
-const SECOND: &[u8] = b"plain 00000002 none\n+ <s> <p> <o> .\n+ <t> <p> \"v\" .\n";
+/// The file of the second layer, a child of the first.
+const SECOND: &[u8] =
+    b"plain 00000002 00000001\n+ <s> <p> <o> .\n+ <t> <p> \"v\" .\n- <a> <p> <b> .\n";
 
 /// The input of each run.
 const BODY: &[u8] = b"<y> <p> <o> .\r\n<x> <p> <o> .\n";
 
-/// The file of the layer that a base makes of it.
-const THIRD: &[u8] = b"plain 00000003 none\n+ <x> <p> <o> .\n+ <y> <p> <o> .\n";
-
-/// The words of a command, and its status, its reply and whether it makes a third layer, where nothing fails.
+/// The words of a command, and its status, its reply and the file of the third layer that it makes, where nothing fails.
 #[derive(Clone, Copy)]
 struct Case<'a> {
     words: &'a [&'a str],
     status: u8,
     reply: &'a [u8],
-    makes: bool,
+    third: Option<&'a [u8]>,
 }
 
 /// `base`.
@@ -34,7 +32,7 @@ const BASE: Case<'static> = Case {
     words: &["base"],
     status: 0,
     reply: b"layer 00000003\n",
-    makes: true,
+    third: Some(b"plain 00000003 none\n+ <x> <p> <o> .\n+ <y> <p> <o> .\n"),
 };
 
 /// A fault: the `nth` call of a kind fails so.
@@ -44,6 +42,21 @@ struct Fault {
     nth: u64,
     how: FaultKind,
 }
+
+/// All kinds of calls.
+const KINDS: &[CallKind] = &[
+    CallKind::List,
+    CallKind::Size,
+    CallKind::ReadAt,
+    CallKind::Create,
+    CallKind::Append,
+    CallKind::Sync,
+    CallKind::Rename,
+    CallKind::Remove,
+    CallKind::SyncNames,
+    CallKind::Barrier,
+    CallKind::Say,
+];
 
 /// A folder of two layers.
 fn two_layers(alloc: Global) -> Result<MemorySite, Fail> {
@@ -63,15 +76,11 @@ fn has(site: &MemorySite, name: &[u8], bytes: Option<&[u8]>) -> bool {
     }
 }
 
-/// Whether the two layers stand as they were, and the third one stands whole or is absent.
-fn stand(site: &MemorySite, third: bool) -> bool {
+/// Whether the two layers stand as they were, and the third one has this file or is absent.
+fn stand(site: &MemorySite, third: Option<&[u8]>) -> bool {
     has(site, b"00000001.layer", Some(FIRST))
         && has(site, b"00000002.layer", Some(SECOND))
-        && has(
-            site,
-            b"00000003.layer",
-            if third { Some(THIRD) } else { None },
-        )
+        && has(site, b"00000003.layer", third)
 }
 
 /// How many calls of a kind a run makes in the folder of two layers, where nothing fails.
@@ -152,8 +161,8 @@ fn stops(site: &MemorySite, outcome: &Outcome, case: Case<'_>, fault: Fault) -> 
     };
     is_stopped(outcome, by_output)
         && site.told() == told
-        && stand(site, case.makes && is_placed(fault))
-        && has_made(site, calls_until(fault.kind, case.makes))
+        && stand(site, if is_placed(fault) { case.third } else { None })
+        && has_made(site, calls_until(fault.kind, case.third.is_some()))
 }
 
 /// Whether a run came to its end undisturbed.
@@ -162,9 +171,9 @@ fn ends(site: &MemorySite, outcome: &Outcome, case: Case<'_>) -> bool {
         && outcome.done == 1
         && outcome.stop.is_none()
         && site.told() == case.reply
-        && stand(site, case.makes)
+        && stand(site, case.third)
         && has(site, b"new.tmp", None)
-        && has_made(site, calls_of_a_run(case.makes))
+        && has_made(site, calls_of_a_run(case.third.is_some()))
 }
 
 /// Whether a run with a planned fault is stopped by it, or comes to its end where it makes fewer calls of that kind.
@@ -172,7 +181,7 @@ fn is_right(alloc: Global, case: Case<'_>, fault: Fault) -> Result<bool, Fail> {
     let mut site = two_layers(alloc)?;
     site.fail(fault.kind, fault.nth, fault.how)?;
     let outcome = run_words(alloc, &mut site, case.words, BODY)?;
-    if fault.nth <= calls_of(fault.kind, case.makes) {
+    if fault.nth <= calls_of(fault.kind, case.third.is_some()) {
         Ok(stops(&site, &outcome, case, fault))
     } else {
         Ok(ends(&site, &outcome, case))
@@ -199,36 +208,63 @@ fn each_call_of_a_run_fails(rt: HostRuntime) -> Result<(), Fail> {
             words: &["list", "00000002"],
             status: 0,
             reply: b"<s> <p> <o> .\n<t> <p> \"v\" .\ntotal 2\n",
-            makes: false,
+            third: None,
         },
         Case {
             words: &["has", "00000002", "<s>", "<p>", "<o>"],
             status: 0,
             reply: b"yes\n",
-            makes: false,
+            third: None,
         },
         Case {
             words: &["list", "00000009"],
             status: 1,
             reply: b"refused no-layer 00000009\n",
-            makes: false,
+            third: None,
         },
     ] {
-        for kind in [
-            CallKind::List,
-            CallKind::Size,
-            CallKind::ReadAt,
-            CallKind::Create,
-            CallKind::Append,
-            CallKind::Sync,
-            CallKind::Rename,
-            CallKind::Remove,
-            CallKind::SyncNames,
-            CallKind::Barrier,
-            CallKind::Say,
-        ] {
+        for kind in KINDS {
             assert!(rt;
-                all_right(rt.alloc(), case, kind)?,
+                all_right(rt.alloc(), case, *kind)?,
+                "{kind:?} of {:?}",
+                case.words
+            );
+        }
+    }
+    Ok(())
+}
+
+#[test]
+fn each_call_of_a_run_on_a_child_fails(rt: HostRuntime) -> Result<(), Fail> {
+    for case in [
+        Case {
+            words: &["commit", "00000002"],
+            status: 0,
+            reply: b"layer 00000003\n",
+            third: Some(b"plain 00000003 00000002\n+ <x> <p> <o> .\n+ <y> <p> <o> .\n"),
+        },
+        Case {
+            words: &["squash", "00000002"],
+            status: 0,
+            reply: b"layer 00000003\n",
+            third: Some(b"plain 00000003 none\n+ <s> <p> <o> .\n+ <t> <p> \"v\" .\n"),
+        },
+        Case {
+            words: &["removed", "00000002"],
+            status: 0,
+            reply: b"<a> <p> <b> .\ntotal 1\n",
+            third: None,
+        },
+        Case {
+            words: &["commit", "00000009"],
+            status: 1,
+            reply: b"refused no-layer 00000009\n",
+            third: None,
+        },
+    ] {
+        for kind in KINDS {
+            assert!(rt;
+                all_right(rt.alloc(), case, *kind)?,
                 "{kind:?} of {:?}",
                 case.words
             );
@@ -243,7 +279,7 @@ fn is_unread(site: &MemorySite, outcome: &Outcome) -> bool {
         && outcome.status == 5
         && outcome.done == 0
         && site.told() == b"".as_slice()
-        && stand(site, false)
+        && stand(site, None)
         && has(site, b"new.tmp", None)
         && site.room() == ROOM
 }

@@ -12,6 +12,8 @@
 
 #[cfg(test)]
 mod fault_tests;
+#[cfg(test)]
+mod layer_tests;
 mod outcome;
 mod running;
 #[cfg(test)]

@@ -99,7 +99,7 @@ pub fn run<W: Site, S: Source>(
     ensures ends { IsTrue (W.outside site.old).tells_folder → (answer : Result Kind Stop) × (result ≡ outcome_of answer)
         × Ends (change_of (W.outside site.old) (W.outside site.new)) (Asks (map string_bytes words.now) (S.tells input.old) (S.left input.old)) answer }
 
-    // Words that are no command touch nothing. The command is read before the folder is opened. Only `base` reads the input, to its
+    // Words that are no command touch nothing. The command is read before the folder is opened. Only `base` and `commit` read the input, to its
     // end.
     ensures untouched { IsNoCommand (map string_bytes words.now) → (site.new ≡ site.old) × (input.new ≡ input.old) }
     ensures read_first { (stop : Stop) → result.stop ≡ Some stop → IsReadingStop stop → site.new ≡ site.old }

@@ -119,45 +119,39 @@ fn two_spellings_are_one_term(rt: HostRuntime) -> Result<(), Fail> {
 
 #[test]
 fn the_last_line_of_a_triple_decides(rt: HostRuntime) -> Result<(), Fail> {
-    let alloc = rt.alloc();
-    assert!(rt;
-        makes(
-            alloc,
-            b"+ <a> <p> <b> .\n- <a> <p> <b> .\n+ <a> <p> <b> .\n",
-            b"plain 00000001 none\n+ <a> <p> <b> .\n"
-        )?
-    );
-    assert!(rt;
-        makes(
-            alloc,
-            b"<a> <p> <b> .\n- <a> <p> <b> .\n",
-            b"plain 00000001 none\n"
-        )?
-    );
-    assert!(rt; makes(alloc, b"-<a> <p> <b>.", b"plain 00000001 none\n")?);
+    for (input, wanted) in [
+        (
+            "+ <a> <p> <b> .\n- <a> <p> <b> .\n+ <a> <p> <b> .\n",
+            "plain 00000001 none\n+ <a> <p> <b> .\n",
+        ),
+        ("<a> <p> <b> .\n- <a> <p> <b> .\n", "plain 00000001 none\n"),
+        ("-<a> <p> <b>.", "plain 00000001 none\n"),
+    ] {
+        assert!(rt;
+            makes(rt.alloc(), input.as_bytes(), wanted.as_bytes())?,
+            "{input}"
+        );
+    }
     Ok(())
 }
 
 #[test]
 fn the_first_line_at_fault_decides(rt: HostRuntime) -> Result<(), Fail> {
-    let alloc = rt.alloc();
-    assert!(rt;
-        refuses(
-            alloc,
-            b"<a> <p> <b> .\n<a> <p> \"\\uD800\" .\n",
-            b"refused bad-triple 2\n"
-        )?
-    );
-    assert!(rt;
-        refuses(
-            alloc,
+    for (input, wanted) in [
+        (
+            b"<a> <p> <b> .\n<a> <p> \"\\uD800\" .\n".as_slice(),
+            "refused bad-triple 2\n",
+        ),
+        (
             b"# blank lines and comments count\n\r<a> <p> .\r\n<a> .\n",
-            b"refused bad-triple 3\n"
-        )?
-    );
-    assert!(rt; refuses(alloc, b"<a> <p> <b>", b"refused bad-triple 1\n")?);
-    assert!(rt; refuses(alloc, b"<a> <p> <b\0> .\n", b"refused bad-triple 1\n")?);
-    assert!(rt; refuses(alloc, b"# \xFF\n", b"refused bad-triple 1\n")?);
+            "refused bad-triple 3\n",
+        ),
+        (b"<a> <p> <b>", "refused bad-triple 1\n"),
+        (b"<a> <p> <b\0> .\n", "refused bad-triple 1\n"),
+        (b"# \xFF\n", "refused bad-triple 1\n"),
+    ] {
+        assert!(rt; refuses(rt.alloc(), input, wanted.as_bytes())?, "{input:?}");
+    }
     Ok(())
 }
 
@@ -207,23 +201,20 @@ fn is_usage(alloc: Global, site: &mut MemorySite, words: &[&str]) -> Result<bool
 
 #[test]
 fn other_words_touch_nothing(rt: HostRuntime) -> Result<(), Fail> {
-    let alloc = rt.alloc();
-    let mut site = MemorySite::new(alloc, 20, 1000)?;
-    assert!(rt; is_usage(alloc, &mut site, &[])?);
-    assert!(rt; is_usage(alloc, &mut site, &["list"])?);
-    assert!(rt; is_usage(alloc, &mut site, &["base", "base"])?);
-    assert!(rt; is_usage(alloc, &mut site, &["Base"])?);
-    assert!(rt; is_usage(alloc, &mut site, &[""])?);
-    assert!(rt; is_usage(alloc, &mut site, &["list", "1"])?);
-    assert!(rt; is_usage(alloc, &mut site, &["list", "00000001", "last"])?);
-    assert!(rt; is_usage(alloc, &mut site, &["has", "00000001", "<a>", "<p>"])?);
-    assert!(rt;
-        is_usage(
-            alloc,
-            &mut site,
-            &["has", "00000001", "\"a\"", "<p>", "<b>"]
-        )?
-    );
+    let mut site = MemorySite::new(rt.alloc(), 20, 1000)?;
+    for words in [
+        [].as_slice(),
+        &["list"],
+        &["base", "base"],
+        &["Base"],
+        &[""],
+        &["list", "1"],
+        &["list", "00000001", "last"],
+        &["has", "00000001", "<a>", "<p>"],
+        &["has", "00000001", "\"a\"", "<p>", "<b>"],
+    ] {
+        assert!(rt; is_usage(rt.alloc(), &mut site, words)?, "{words:?}");
+    }
     assert_eq!(rt; site.room(), (20, 1000));
     Ok(())
 }
@@ -240,15 +231,22 @@ fn stopped_after(alloc: Global, calls: u64) -> Result<(u8, u64, bool, bool), Fai
 
 #[test]
 fn seven_calls_make_a_layer(rt: HostRuntime) -> Result<(), Fail> {
-    let alloc = rt.alloc();
-    assert_eq!(rt; stopped_after(alloc, 0)?, (4, 0, false, false));
-    assert_eq!(rt; stopped_after(alloc, 1)?, (4, 0, false, false));
-    assert_eq!(rt; stopped_after(alloc, 2)?, (4, 0, true, false));
-    assert_eq!(rt; stopped_after(alloc, 3)?, (4, 0, true, false));
-    assert_eq!(rt; stopped_after(alloc, 4)?, (4, 0, true, false));
-    assert_eq!(rt; stopped_after(alloc, 5)?, (4, 0, false, true));
-    assert_eq!(rt; stopped_after(alloc, 6)?, (6, 0, false, true));
-    assert_eq!(rt; stopped_after(alloc, 7)?, (0, 0, false, true));
+    for (calls, status, staged, placed) in [
+        (0, 4, false, false),
+        (1, 4, false, false),
+        (2, 4, true, false),
+        (3, 4, true, false),
+        (4, 4, true, false),
+        (5, 4, false, true),
+        (6, 6, false, true),
+        (7, 0, false, true),
+    ] {
+        assert_eq!(rt;
+            stopped_after(rt.alloc(), calls)?,
+            (status, 0, staged, placed),
+            "{calls}"
+        );
+    }
     Ok(())
 }
 
@@ -272,71 +270,41 @@ fn answers(
 
 #[test]
 fn a_layer_is_listed_and_asked(rt: HostRuntime) -> Result<(), Fail> {
-    let alloc = rt.alloc();
-    let (status, mut site) = base_of(alloc, b"<a> <p> <b> .\n", 10_000)?;
+    let (status, mut site) = base_of(rt.alloc(), b"<a> <p> <b> .\n", 10_000)?;
     assert_eq!(rt; status, 0);
-    assert!(rt;
-        answers(
-            alloc,
-            &mut site,
-            &["list", "00000001"],
-            0,
-            b"<a> <p> <b> .\ntotal 1\n"
-        )?
-    );
-    assert!(rt;
-        answers(
-            alloc,
-            &mut site,
-            &["has", "00000001", "<a>", "<p>", "<b>"],
-            0,
-            b"yes\n"
-        )?
-    );
-    assert!(rt;
-        answers(
-            alloc,
-            &mut site,
-            &["has", "00000001", "<a>", "<p>", "<c>"],
-            0,
-            b"no\n"
-        )?
-    );
+    for (words, wanted) in [
+        (["list", "00000001"].as_slice(), "<a> <p> <b> .\ntotal 1\n"),
+        (&["has", "00000001", "<a>", "<p>", "<b>"], "yes\n"),
+        (&["has", "00000001", "<a>", "<p>", "<c>"], "no\n"),
+    ] {
+        assert!(rt;
+            answers(rt.alloc(), &mut site, words, 0, wanted.as_bytes())?,
+            "{wanted}"
+        );
+    }
     Ok(())
 }
 
 #[test]
 fn no_other_layer_stands(rt: HostRuntime) -> Result<(), Fail> {
-    let alloc = rt.alloc();
-    let (status, mut site) = base_of(alloc, b"<a> <p> <b> .\n", 10_000)?;
+    let (status, mut site) = base_of(rt.alloc(), b"<a> <p> <b> .\n", 10_000)?;
     assert_eq!(rt; status, 0);
-    assert!(rt;
-        answers(
-            alloc,
-            &mut site,
-            &["list", "00000002"],
-            1,
-            b"refused no-layer 00000002\n"
-        )?
-    );
-    assert!(rt;
-        answers(
-            alloc,
-            &mut site,
-            &["list", "last"],
-            1,
-            b"refused no-layer last\n"
-        )?
-    );
-    assert!(rt;
-        answers(
-            alloc,
-            &mut site,
+    for (words, wanted) in [
+        (
+            ["list", "00000002"].as_slice(),
+            "refused no-layer 00000002\n",
+        ),
+        (&["list", "last"], "refused no-layer last\n"),
+        (
             &["has", "last", "<a>", "<p>", "<b>"],
-            1,
-            b"refused no-layer last\n"
-        )?
-    );
+            "refused no-layer last\n",
+        ),
+    ] {
+        assert!(rt;
+            answers(rt.alloc(), &mut site, words, 1, wanted.as_bytes())?,
+            "{words:?}"
+        );
+    }
     Ok(())
 }
 

@@ -1,4 +1,4 @@
-use Rattle.std.proofs.Common.{◌≡◌, Bool, IsTrue, List, ℕ, sym, subst}
+use Rattle.std.proofs.Common.{Bool, IsTrue, List, ℕ, sym, subst}
 use Rattle.ts_site.specs.Folder.{Folder}
 use Rattle.ts_store.specs.FolderSays.{FolderSays}
 use Rattle.ts_store.specs.Keeps.{Keeps}
@@ -6,7 +6,7 @@ use Rattle.ts_store.specs.Leaves.{LeavesFolder, LeavesTold}
 use Rattle.ts_store.specs.Stands.{Stands}
 use Rattle.ts_store.specs.Step.{step_of}
 use Rattle.ts_store.specs.Stops.{kind_of}
-use Rattle.ts_cli.specs.Change.{Change, change_of}
+use Rattle.ts_cli.specs.Change.{change_of}
 use Rattle.ts_cli.proofs.EndsLemmas.{ends_step, kind_only}
 use Rattle.ts_cli.proofs.running.step.Goals as goal
 
