@@ -27,7 +27,7 @@
 //! `open` goes over the words once. `get` reads one word, and `rank1` two counts and a word. `select1`
 //! guesses the superblock by how far `n` is on the way to all ones, goes on from there in steps that
 //! double, and halves what is left; then it counts among the words of one superblock, and within one word
-//! first bytes and then bits. `select1_in` and `select0_in` do the same within the superblocks of their
+//! it sums all bytes at once. `select1_in` and `select0_in` do the same within the superblocks of their
 //! range. `place_near` looks into the word of the place that it is given, and then at superblocks in steps
 //! that double from there. `next1` reads one word, and selects where the word has no one.
 #![tactic(auto)]

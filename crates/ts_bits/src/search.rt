@@ -1,7 +1,7 @@
 //! Searches for the bit of a kind, one or zero, with a given number of its kind before it: its superblock,
 //! its word, and its place there.
 
-ghost use Rattle.std.specs.Prelude.{◌≡◌, ◌+◌, ◌*◌, ◌/◌, ◌<◌, ◌≤◌, true, IfNone, IfSome};
+ghost use Rattle.std.specs.Prelude.{◌≡◌, ◌+◌, ◌*◌, ◌/◌, ◌<◌, ◌≤◌, true, IfNone, IfSome, IsTrue};
 ghost use Rattle.ts_bits.specs.BitArray.{words_in, superblocks_in};
 ghost use Rattle.ts_bits.specs.BitKinds.{before_superblock, before_word, before_place, Brackets, IsNextInWord};
 
@@ -198,14 +198,69 @@ pub(crate) fn kind_in_word(word: u64, kind: bool) -> u64
     if kind { ones } else { 64 - ones }
 }
 
-/// The place, from the top, of the bit of `word` with exactly `n` of its kind above it: first its byte,
-/// then its place there.
+/// A one in each byte.
+const LOWEST: u64 = 0x0101_0101_0101_0101;
+
+/// The top bit of each byte.
+const HIGHEST: u64 = 0x8080_8080_8080_8080;
+
+/// In each byte how many ones there are in that byte and the lower ones.
+fn sums_of_bytes(word: u64) -> u64 {
+    let twos = word.wrapping_sub((word >> 1) & 0x5555_5555_5555_5555);
+    let fours = (twos & 0x3333_3333_3333_3333).wrapping_add((twos >> 2) & 0x3333_3333_3333_3333);
+    let bytes = fours.wrapping_add(fours >> 4) & 0x0f0f_0f0f_0f0f_0f0f;
+    bytes.wrapping_mul(LOWEST)
+}
+
+/// How many of eight sums, a byte each and at most 64, are at most `n`, which is below 64.
+fn sums_within(sums: u64, n: u64) -> u64 {
+    let passed = (n.wrapping_mul(LOWEST) | HIGHEST).wrapping_sub(sums) & HIGHEST;
+    u64::from(passed.count_ones())
+}
+
+/// The place, from the top, that the one with exactly `n` ones above it has in the word, all bytes summed at
+/// once. Any place is a right answer: the caller looks.
+fn likely_place(word: u64, n: u64) -> u64
+    ensures { result < 64 }
+{
+    let sums = sums_of_bytes(word);
+    let below = (sums >> 56).wrapping_sub(1).wrapping_sub(n) % 64;
+    let byte = 8 * (sums_within(sums, below) % 8);
+    let rest = below.wrapping_sub((sums << 8) >> byte) % 64;
+    let bits = ((word >> byte) % 256).wrapping_mul(LOWEST) & 0x8040_2010_0804_0201;
+    let ones = (bits.wrapping_add(0x7f7f_7f7f_7f7f_7f7f) >> 7) & LOWEST;
+    let place = byte + sums_within(ones.wrapping_mul(LOWEST), rest) % 8;
+    63 - place % 64
+}
+
+/// Whether the bit at this place, from the top, has exactly `n` of its kind above it.
+fn is_place(word: u64, kind: bool, n: u64, place: u64) -> bool
+    requires { place < 64 }
+    ensures low { IsTrue result → before_place kind word place ≤ n }
+    ensures high { IsTrue result → n < before_place kind word (place + 1) }
+{
+    let front = word >> (63 - place);
+    let through = u64::from(front.count_ones());
+    let before = u64::from((front >> 1).count_ones());
+    if kind {
+        before <= n && n < through
+    } else {
+        place.saturating_sub(before) <= n && n < (place + 1).saturating_sub(through)
+    }
+}
+
+/// The place, from the top, of the bit of `word` with exactly `n` of its kind above it: where it is likely,
+/// and else first its byte and then its place there.
 pub(crate) fn place_in_word(word: u64, kind: bool, n: u64) -> u64
     requires { n < before_place kind word 64 }
     ensures within { result < 64 }
     ensures low { before_place kind word result ≤ n }
     ensures high { n < before_place kind word (result + 1) }
 {
+    let place = likely_place(if kind { word } else { !word }, n);
+    if is_place(word, kind, n, place) {
+        return place;
+    }
     let byte = 8 * steps_within(word, kind, 0, 8, n);
     byte + steps_within(word, kind, byte, 1, n)
 }

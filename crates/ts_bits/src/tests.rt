@@ -1,5 +1,8 @@
 //! The format's worked bytes, refused bytes, and a long list.
 
+ghost use Rattle.std.specs.Prelude.{◌<◌, length};
+ghost use Rattle.ts_bits.specs.BitKinds.{kind_rank};
+
 use crate::{BitBuilder, BitView};
 use std::test::Fail;
 
@@ -106,5 +109,38 @@ fn finds_each_one_of_a_long_list(rt: HostRuntime) -> Result<(), Fail> {
         assert_eq!(rt; view.select1(n), Some(2 * n));
     }
     assert_eq!(rt; view.select1(131_072), None);
+    Ok(())
+}
+
+/// Whether the bit of the kind with `n` of its kind before it is found here, from wherever the search begins.
+fn stands_at(view: &BitView<'_>, kind: bool, n: u64, place: u64) -> bool
+    requires { n < kind_rank kind view.now (length view.now) }
+{
+    for near in [0, 700, 4_097, u64::MAX] {
+        if view.place_near(kind, near, n) != place {
+            return false;
+        }
+    }
+    true
+}
+
+#[test]
+fn finds_bits_near_a_place(rt: HostRuntime) -> Result<(), Fail> {
+    let mut builder = BitBuilder::new(rt.alloc());
+    for place in 0..4_098u32 {
+        builder.push(place % 3 == 0)?;
+    }
+    let mut bytes = Vec::new(rt.alloc());
+    builder.finish(&mut bytes)?;
+    let view = BitView::open(&bytes).expect(&rt, "what was written");
+    let len = view.len();
+    let ones = view.rank1(len);
+    assert_eq!(rt; (len, ones), (4_098, 1_366));
+    for n in 0..ones {
+        assert!(rt; stands_at(&view, true, n, 3 * n), "one {n}");
+    }
+    for n in 0..len - ones {
+        assert!(rt; stands_at(&view, false, n, n + n / 2 + 1), "zero {n}");
+    }
     Ok(())
 }

@@ -97,21 +97,20 @@ impl<'a> Levels<'a> {
         }
     }
 
-    /// From a part of level `l`, with `before` ones of all levels before it, to the part of the next that has
-    /// the numbers with this digit.
-    pub(crate) fn step(&self, l: u64, spot: Spot, before: u64, digit: bool) -> Spot
+    /// From a part of level `l` to the part of the next that has the numbers with this digit. `ones` stand in
+    /// the part, and `ones_here` before the place.
+    fn narrowed(&self, l: u64, spot: Spot, ones: u64, ones_here: u64, digit: bool) -> Spot
         requires level { l < self.now.width }
         requires after { spot.start ≤ spot.place }
         requires order { spot.place ≤ spot.end }
         requires within { spot.end ≤ self.now.len }
-        requires before { before ≡ rank self.now.bits (l * self.now.len + spot.start) }
+        requires ones { ones ≡ ones_between self.now.bits (l * self.now.len + spot.start) (l * self.now.len + spot.end) }
+        requires here { ones_here ≡ ones_between self.now.bits (l * self.now.len + spot.start) (l * self.now.len + spot.place) }
         ensures { (sequence : List ℕ) (top j : ℕ) → IsTree self.now.width self.now.bits sequence
             → length sequence ≡ self.now.len
             → IsSpot sequence (self.now.width - l) top spot.start spot.end j spot.place
             → IsSpot sequence (self.now.width - (l + 1)) (2 * top + digit_of digit) result.start result.end j result.place }
     {
-        let ones = self.ones_in(l, spot.start, spot.end, before);
-        let ones_here = self.ones_in(l, spot.start, spot.place, before);
         let middle = spot.end - ones;
         if digit {
             Spot {
@@ -128,6 +127,23 @@ impl<'a> Levels<'a> {
         }
     }
 
+    /// The same, where `before` ones of all levels stand before the part.
+    pub(crate) fn step(&self, l: u64, spot: Spot, before: u64, digit: bool) -> Spot
+        requires level { l < self.now.width }
+        requires after { spot.start ≤ spot.place }
+        requires order { spot.place ≤ spot.end }
+        requires within { spot.end ≤ self.now.len }
+        requires before { before ≡ rank self.now.bits (l * self.now.len + spot.start) }
+        ensures { (sequence : List ℕ) (top j : ℕ) → IsTree self.now.width self.now.bits sequence
+            → length sequence ≡ self.now.len
+            → IsSpot sequence (self.now.width - l) top spot.start spot.end j spot.place
+            → IsSpot sequence (self.now.width - (l + 1)) (2 * top + digit_of digit) result.start result.end j result.place }
+    {
+        let ones = self.ones_in(l, spot.start, spot.end, before);
+        let ones_here = self.ones_in(l, spot.start, spot.place, before);
+        self.narrowed(l, spot, ones, ones_here, digit)
+    }
+
     /// The number at place `j`.
     pub(crate) fn at(&self, j: u64) -> u64
         requires { j < self.now.len }
@@ -136,9 +152,10 @@ impl<'a> Levels<'a> {
         let mut spot = self.top(j);
         let mut number = 0;
         for l in 0..self.width {
-            let digit = self.bits.get(l * self.len + spot.place);
+            let (digit, here) = self.bits.get_rank(l * self.len + spot.place);
             let before = self.ones_before(l, spot.start);
-            spot = self.step(l, spot, before, digit);
+            let ones = self.ones_in(l, spot.start, spot.end, before);
+            spot = self.narrowed(l, spot, ones, here - before, digit);
             number = 2 * number + u64::from(digit);
         }
         number
