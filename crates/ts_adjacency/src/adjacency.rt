@@ -1,8 +1,9 @@
 //! An adjacency list: rows of places, and a number at each place.
 
-ghost use Rattle.std.specs.Prelude.{◌≡◌, ◌<◌, ◌≤◌, Some, length, slice_get, slice_index, IfSome, IfNone};
+ghost use Rattle.std.specs.Prelude.{◌≡◌, ℕ, ◌<◌, ◌≤◌, Some, length, slice_get, slice_index, IfSome, IfNone};
 ghost use Rattle.ts_adjacency.specs.Adjacency.{Adjacency, IsWhole, edges_from};
 ghost use Rattle.ts_adjacency.specs.Rows.{IsRow, row_count, row_of};
+ghost use Rattle.ts_log.specs.Rising.{RisesBetween};
 
 use crate::edges::Rows;
 use crate::rows::RowsView;
@@ -111,6 +112,20 @@ impl<'a> AdjacencyView<'a> {
         ensures { result ≡ slice_index self.now.rights j }
     {
         self.rights.get(j)
+    }
+
+    /// The first place from `from` on, and before `to`, whose right side is at least `x`, and `to` where
+    /// there is none. The right sides rise there: a binary search.
+    pub fn first_at_least(&self, from: u64, to: u64, x: u64) -> u64
+        requires ordered { from ≤ to }
+        requires inside { to ≤ length self.now.ends }
+        requires rising { RisesBetween self.now.rights from to }
+        ensures begins { from ≤ result }
+        ensures ends { result ≤ to }
+        ensures below { (j : ℕ) → from ≤ j → j < result → slice_index self.now.rights j < x }
+        ensures reached { (j : ℕ) → result ≤ j → j < to → x ≤ slice_index self.now.rights j }
+    {
+        self.rights.first_at_least(from, to, x)
     }
 
     /// Goes over the edges, as (row, right), from row `i` on.

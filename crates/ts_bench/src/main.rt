@@ -1,11 +1,16 @@
-//! Times the lookups of the structures over bytes: `bits N`, `numbers N`, `texts N`, `sequence N`. It prints nanoseconds for each lookup,
-//! at places drawn at random. Any other words print what there is to time.
+//! Times the lookups of the structures over bytes: `bits N`, `numbers N`, `texts N`, `sequence N`, `plane N`, `triples N`. It prints
+//! nanoseconds for each lookup, at places drawn at random. Any other words print what there is to time.
 #![tactic(auto)]
+
+mod draw;
+mod planes;
 
 ghost use Rattle.std.specs.Prelude.{◌≡◌, ◌≤◌, All, IfOk};
 ghost use Rattle.std.specs.Cmp.Lexicographic.{slice_cmp};
 ghost use Rattle.std.specs.Ordering.{is_lt, nat_cmp};
 
+use crate::draw::{LOOKUPS, draw, draw_below, tell};
+use crate::planes::{drawn_triples, spread_triples, time_plane};
 use std::alloc::{AllocError, Global};
 use std::env;
 use std::rt::{Clock, Env};
@@ -15,15 +20,14 @@ use ts_front::{FrontBuilder, FrontView};
 use ts_log::{LogBuilder, LogView};
 use ts_wavelet::{WaveletView, write_wavelet};
 
-/// How many lookups of a kind are timed.
-const LOOKUPS: u32 = 1_000_000;
-
 /// What is to be timed, and over how many elements.
 enum Task {
     Bits(u64),
     Numbers(u64),
     Texts(u64),
     Sequence(u64),
+    Plane(u64),
+    Triples(u64),
     Nothing,
 }
 
@@ -33,8 +37,10 @@ fn main(rt: HostRuntime) -> anyhow::Result<()> {
         Task::Numbers(count) => time_numbers(&rt, rt.alloc(), count),
         Task::Texts(count) => time_texts(&rt, rt.alloc(), count),
         Task::Sequence(count) => time_sequence(&rt, rt.alloc(), count),
+        Task::Plane(count) => time_plane(&rt, rt.alloc(), &spread_triples(rt.alloc(), count)?),
+        Task::Triples(count) => time_plane(&rt, rt.alloc(), &drawn_triples(rt.alloc(), count)?),
         Task::Nothing => {
-            println!(rt; "bits N, numbers N, texts N, sequence N")?;
+            println!(rt; "bits N, numbers N, texts N, sequence N, plane N, triples N")?;
             Ok(())
         }
     }
@@ -54,23 +60,10 @@ fn read_task(rt: &(impl Env + AllocGlobal)) -> anyhow::Result<Task> {
         "numbers" => Task::Numbers(count),
         "texts" => Task::Texts(count),
         "sequence" => Task::Sequence(count),
+        "plane" => Task::Plane(count),
+        "triples" => Task::Triples(count),
         _ => Task::Nothing,
     })
-}
-
-/// The next of a row of numbers that look drawn at random.
-fn draw(x: &mut u64) -> u64 {
-    *x = x
-        .wrapping_mul(6_364_136_223_846_793_005)
-        .wrapping_add(1_442_695_040_888_963_407);
-    *x >> 20
-}
-
-/// Prints how long a lookup took on average.
-fn tell(rt: &(impl Print + Clock), name: &str, start: Instant, seen: u64) -> anyhow::Result<()> {
-    let nanos = start.elapsed(rt)?.as_nanos() / u128::from(LOOKUPS);
-    println!(rt; "{name} {nanos} ns ({seen:x})")?;
-    Ok(())
 }
 
 fn time_bits(rt: &(impl Print + Clock), alloc: Global, count: u64) -> anyhow::Result<()> {
@@ -96,7 +89,7 @@ fn time_rank(rt: &(impl Print + Clock), view: &BitView<'_>) -> anyhow::Result<()
     let (mut x, mut seen) = (1, 0);
     let start = Instant::now(rt)?;
     for _ in 0..LOOKUPS {
-        seen ^= view.rank1(draw(&mut x) % len);
+        seen ^= view.rank1(draw_below(&mut x, len));
     }
     tell(rt, "rank1", start, seen)
 }
@@ -109,7 +102,7 @@ fn time_select(rt: &(impl Print + Clock), view: &BitView<'_>) -> anyhow::Result<
     let (mut x, mut seen) = (1, 0);
     let start = Instant::now(rt)?;
     for _ in 0..LOOKUPS {
-        seen ^= view.select1(draw(&mut x) % ones).unwrap_or(0);
+        seen ^= view.select1(draw_below(&mut x, ones)).unwrap_or(0);
     }
     tell(rt, "select1", start, seen)
 }
@@ -135,7 +128,7 @@ fn time_get(rt: &(impl Print + Clock), view: &LogView<'_>) -> anyhow::Result<()>
     let (mut x, mut seen) = (1, 0);
     let start = Instant::now(rt)?;
     for _ in 0..LOOKUPS {
-        seen ^= view.get(draw(&mut x) % len);
+        seen ^= view.get(draw_below(&mut x, len));
     }
     tell(rt, "get", start, seen)
 }
@@ -197,7 +190,7 @@ fn time_find(rt: &(impl Print + Clock), view: &FrontView<'_>) -> anyhow::Result<
     let (mut x, mut seen) = (1, 0);
     let start = Instant::now(rt)?;
     for _ in 0..LOOKUPS {
-        seen ^= view.find(&digits_of(draw(&mut x) % len)).unwrap_or(0);
+        seen ^= view.find(&digits_of(draw_below(&mut x, len))).unwrap_or(0);
     }
     tell(rt, "find", start, seen)
 }
@@ -235,7 +228,7 @@ fn time_at(rt: &(impl Print + Clock), view: &WaveletView<'_>) -> anyhow::Result<
     let (mut x, mut seen) = (1, 0);
     let start = Instant::now(rt)?;
     for _ in 0..LOOKUPS {
-        seen ^= view.at(draw(&mut x) % len);
+        seen ^= view.at(draw_below(&mut x, len));
     }
     tell(rt, "at", start, seen)
 }
@@ -249,7 +242,7 @@ fn time_occurrences(rt: &(impl Print + Clock), view: &WaveletView<'_>) -> anyhow
     let start = Instant::now(rt)?;
     for _ in 0..LOOKUPS {
         let p = 1 + draw(&mut x) % 511;
-        seen ^= view.rank(p, draw(&mut x) % len);
+        seen ^= view.rank(p, draw_below(&mut x, len));
     }
     tell(rt, "rank", start, seen)
 }
@@ -263,7 +256,7 @@ fn time_place(rt: &(impl Print + Clock), view: &WaveletView<'_>) -> anyhow::Resu
     let start = Instant::now(rt)?;
     for _ in 0..LOOKUPS {
         let p = 1 + draw(&mut x) % 511;
-        seen ^= view.select(p, draw(&mut x) % fewest).unwrap_or(0);
+        seen ^= view.select(p, draw_below(&mut x, fewest)).unwrap_or(0);
     }
     tell(rt, "select", start, seen)
 }

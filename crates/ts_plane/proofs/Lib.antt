@@ -5,12 +5,14 @@ pub mod DecodedLemmas
 pub mod EncodeLemmas
 pub mod ExactLemmas
 pub mod FirstFaults
+pub mod FollowLemmas
 pub mod GroupLemmas
 pub mod GroupMembers
 pub mod Hints
 pub mod KeptLemmas
 pub mod Members
 pub mod Narrowed
+pub mod NextLemmas
 pub mod ObjectFaults
 pub mod ObjectLemmas
 pub mod ObjectSets

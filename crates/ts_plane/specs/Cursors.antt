@@ -1,6 +1,7 @@
 -- Where the cursors of a walk stand.
-use Rattle.std.specs.Prelude.{◌≡◌, ℕ, ◌-◌, ◌<◌, ◌≤◌, true, false, nat_eq, Option, List, length, map, slice_index}
+use Rattle.std.specs.Prelude.{◌≡◌, ◌≢◌, ℕ, ◌-◌, ◌<◌, ◌≤◌, true, false, nat_eq, Option, List, length, map, slice_index}
 use Rattle.std.specs.List.{filter, range_with_len}
+use Rattle.ts_log.specs.Rising.{RisesBetween}
 use Rattle.ts_adjacency.specs.Rows.{BeginsAt}
 use Rattle.ts_wavelet.specs.Sequence.{places_from}
 use Rattle.ts_plane.specs.declared.triple.IdTriple.{IdTriple}
@@ -42,11 +43,12 @@ unfoldable pub with_object : PlaneParts → ℕ → Option ℕ → ℕ → ℕ �
 with_object parts o p from to =
     filter (λ t. part_fits p t.p) (map (λ q. pair_with parts o (slice_index parts.object_pairs q)) (range_with_len from (to - from)))
 
--- at a place of the list by objects
+-- at a place of the list by objects, where the pairs of one object rise
 pub record StandsInObject (parts : PlaneParts) (place end : ℕ) : Type 0 where
   pub kept : KeepsRules parts
   pub ordered : place ≤ end
   pub within : end ≤ length parts.object_pair_ends
+  pub rising : RisesBetween parts.object_pairs place end
 
 -- no pair at these places of the list by objects has a predicate that fits
 abbrev pub NoneHas : PlaneParts → Option ℕ → ℕ → ℕ → Type 0
@@ -59,3 +61,14 @@ pub record IsNextWith (parts : PlaneParts) (p : Option ℕ) (from to place pair 
   pub there : pair ≡ slice_index parts.object_pairs place
   pub fits : part_fits p (pair_at parts pair).1 ≡ true
   pub before : NoneHas parts p from place
+
+-- no pair from `from` on to before `to` has the predicate
+abbrev pub NoPairHas : List ℕ → ℕ → ℕ → ℕ → Type 0
+NoPairHas predicates p from to = (k : ℕ) → from ≤ k → k < to → slice_index predicates k ≢ p
+
+-- the first pair from `from` on that has the predicate
+pub record IsNextPair (predicates : List ℕ) (p from pair : ℕ) : Type 0 where
+  pub low : from ≤ pair
+  pub within : pair < length predicates
+  pub has : slice_index predicates pair ≡ p
+  pub before : NoPairHas predicates p from pair

@@ -1,6 +1,7 @@
 pub mod Cursors
 pub mod Decoded
 pub mod Fits
+pub mod Follows
 pub mod Groups
 pub mod Kept
 pub mod Lookups

@@ -11,9 +11,12 @@
 mod by_object;
 mod by_predicate;
 mod checked;
+#[cfg(test)]
+mod large_tests;
 mod lookup;
 mod objects;
 mod open;
+mod order;
 mod pattern;
 mod range;
 mod rising;
@@ -30,6 +33,7 @@ mod walk;
 mod walk_tests;
 mod write;
 
+pub use order::is_plane_list;
 pub use pattern::IdPattern;
 pub use triple::IdTriple;
 pub use view::PlaneView;

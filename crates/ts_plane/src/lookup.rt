@@ -3,10 +3,11 @@
 //! Pairs and triples are named by their places, from 0. Those that a lookup asks for stand side by side,
 //! so an answer is the first of them and the one behind the last.
 
-ghost use Rattle.std.specs.Prelude.{◌≡◌, ℕ, ◌+◌, ◌<◌, ◌≤◌, Bool, Option, Some, IfNone, IfSome, length, slice_index};
+ghost use Rattle.std.specs.Prelude.{◌≡◌, ◌≢◌, ℕ, ◌+◌, ◌<◌, ◌≤◌, Bool, Option, Some, IfNone, IfSome, length, slice_index};
 ghost use Rattle.std.specs.Ordering.{is_lt};
 ghost use Rattle.ts_adjacency.specs.Rows.{row_of};
-ghost use Rattle.ts_plane.specs.Cursors.{IsNextWith, NoneHas, with_object};
+ghost use Rattle.ts_log.specs.Rising.{RisesBetween};
+ghost use Rattle.ts_plane.specs.Cursors.{IsNextPair, IsNextWith, NoPairHas, NoneHas, StandsInObject, with_object};
 ghost use Rattle.ts_plane.specs.Decoded.{triple_at, triples_in};
 ghost use Rattle.ts_plane.specs.Kept.{KeepsRules};
 ghost use Rattle.ts_plane.specs.Lookups.{IsFirstPair, IsRun, pair_at, pair_fits};
@@ -17,6 +18,9 @@ ghost use Rattle.ts_plane.specs.Triple.{triple_cmp};
 use crate::search::{first_above, first_right, first_symbol};
 use crate::sections::Sections;
 use crate::triple::IdTriple;
+
+/// How many pairs of another predicate a walk steps over, one by one, before it leaps.
+const STEPS: u64 = 8;
 
 impl<'a> Sections<'a> {
     /// The subject of a pair.
@@ -194,23 +198,13 @@ impl<'a> Sections<'a> {
         }
     }
 
-    /// Whether a pair has the predicate, where one is asked for.
-    fn has_predicate(&self, pair: u64, p: Option<u64>) -> bool
-        requires { pair < length self.now.predicates }
-        ensures { result ≡ part_fits p (slice_index self.now.predicates pair) }
-    {
-        match p {
-            Some(p) => p == self.predicates.at(pair),
-            None => true,
-        }
-    }
-
     /// The places in the list by objects of the pairs that make with `o` a triple of the subject, where
     /// one is asked for, greater than `after`, where there is such a bound.
     pub(crate) fn pairs_with(&self, s: Option<u64>, o: u64, after: Option<IdTriple>) -> (u64, u64)
         requires { KeepsRules (parts_in self.now) }
         ensures ordered { result.0 ≤ result.1 }
         ensures within { result.1 ≤ length self.now.by_object.ends }
+        ensures rising { RisesBetween self.now.by_object.rights result.0 result.1 }
         ensures walk { (p : Option ℕ) → with_object (parts_in self.now) o p result.0 result.1
             ≡ walk_of (triples_in (parts_in self.now)) (record { s = s; p = p; o = Some o }) after }
     {
@@ -227,21 +221,65 @@ impl<'a> Sections<'a> {
         )
     }
 
+    /// The first pair from `pair` on that has the predicate.
+    fn next_pair(&self, pair: u64, p: u64) -> Option<u64>
+        requires { pair < length self.now.predicates }
+        ensures none { IfNone result (NoPairHas self.now.predicates p pair (length self.now.predicates)) }
+        ensures some { IfSome result (IsNextPair self.now.predicates p pair) }
+    {
+        self.predicates.places_from(p, pair).next()
+    }
+
+    /// A place behind `next`, where a pair of another predicate stands, such that no pair before it has the
+    /// predicate. It is the next place at first, and after some misses in a row that of the first pair that
+    /// is not below the predicate's next: finding that takes as long as several steps.
+    fn place_behind(&self, next: u64, end: u64, p: u64, misses: u64) -> u64
+        requires stands { StandsInObject (parts_in self.now) next end }
+        requires some { next < end }
+        requires other { slice_index self.now.predicates (slice_index self.now.by_object.rights next) ≢ p }
+        ensures begins { next < result }
+        ensures ends { result ≤ end }
+        ensures none { NoneHas (parts_in self.now) (Some p) next result }
+    {
+        if misses < STEPS {
+            return next + 1;
+        }
+        match self.next_pair(self.by_object.right(next), p) {
+            Some(found) => first_right(&self.by_object, next + 1, end, found),
+            None => end,
+        }
+    }
+
+    /// The first of these places in the list by objects whose pair has the predicate, and that pair.
+    fn next_of(&self, place: u64, end: u64, p: u64) -> Option<(u64, u64)>
+        requires { StandsInObject (parts_in self.now) place end }
+        ensures none { IfNone result (NoneHas (parts_in self.now) (Some p) place end) }
+        ensures some { IfSome result (λ found. IsNextWith (parts_in self.now) (Some p) place end found.0 found.1) }
+    {
+        let mut next = place;
+        let mut misses = 0u64;
+        while next < end {
+            let pair = self.by_object.right(next);
+            if self.predicates.at(pair) == p {
+                return Some((next, pair));
+            }
+            next = self.place_behind(next, end, p, misses);
+            misses = misses.saturating_add(1);
+        }
+        None
+    }
+
     /// The first of these places in the list by objects whose pair has the predicate, where one is asked
     /// for, and that pair.
     pub(crate) fn next_with(&self, place: u64, end: u64, p: Option<u64>) -> Option<(u64, u64)>
-        requires kept { KeepsRules (parts_in self.now) }
-        requires ordered { place ≤ end }
-        requires within { end ≤ length self.now.by_object.ends }
+        requires { StandsInObject (parts_in self.now) place end }
         ensures none { IfNone result (NoneHas (parts_in self.now) p place end) }
         ensures some { IfSome result (λ found. IsNextWith (parts_in self.now) p place end found.0 found.1) }
     {
-        for next in place..end {
-            let pair = self.by_object.right(next);
-            if self.has_predicate(pair, p) {
-                return Some((next, pair));
-            }
+        match p {
+            Some(p) => self.next_of(place, end, p),
+            None if place < end => Some((place, self.by_object.right(place))),
+            None => None,
         }
-        None
     }
 }

@@ -35,17 +35,7 @@ pub(crate) fn first_right(edges: &AdjacencyView<'_>, from: u64, to: u64, x: u64)
     requires rising { RisesBetween edges.now.rights from to }
     ensures { IsFirst edges.now.rights from to x result }
 {
-    let mut low = from;
-    let mut high = to;
-    while low < high {
-        let middle = low + (high - low) / 2;
-        if edges.right(middle) < x {
-            low = middle + 1;
-        } else {
-            high = middle;
-        }
-    }
-    low
+    edges.first_at_least(from, to, x)
 }
 
 /// The first of these places whose right side is greater than `x`, and `to` where there is none.

@@ -31,3 +31,8 @@ returns-clause-walk c = λ p.
     (omega (arith, c.in-Some.ensures.found, c.len.ensures)) c.in-Some.ensures.found.2 c.row.ensures c.pairs_of_subject-from.ensures c.start_pair-start.ensures
     (λ h. omega (arith, c.pairs_of_subject-from.ensures.ordered, c.max.ensures, c.min-from.ensures)) (λ h k. omega (arith, c.pairs_of_subject-from.ensures.ordered, c.max.ensures, c.min-from.ensures))
     (λ h. omega (arith, c.pairs_of_subject-from.ensures.ordered, c.max.ensures, c.min-from.ensures)) c.first_right.ensures c.first_right-2.ensures
+
+pub returns-clause-rising : goal.returns-clause-rising
+returns-clause-rising c =
+    let up = row_rises (parts_in c.args.self.now) c.in-Some.row c.row.result.0 c.row.result.1 c.requires (omega (arith, c.in-Some.ensures.found, c.len.ensures)) c.row.ensures in
+    λ k low high. up k (omega (arith, low, c.first_right.ensures.begins)) (omega (arith, high, c.first_right-2.ensures.ends))
