@@ -37,9 +37,11 @@ impl<R: Files + Print + AllocGlobal + Clone + Drop> RealSite<R> {
 }
 
 impl<R: Files + Print + AllocGlobal + Clone + Drop> Disk for RealSite<R> {
-    ghost use Rattle.ts_real.specs.Real.{real_outside};
+    ghost use Rattle.ts_real.specs.Real.{owes_none, real_outside};
 
     ghost outside = { real_outside };
+
+    ghost reads_image = { λ site honest. owes_none site honest };
 
     fn list(&mut self, alloc: Global, into: &mut Vec<FileName>) -> Result<(), ListFail> {
         match folder::list(&self.rt, into) {

@@ -65,3 +65,6 @@ take_last xs i x some within is =
 
 pub take_next : {A : Type 0} (xs : List A) (i : ℕ) (x : A) → i < length xs → x ≡ get_or xs i x → take (i + 1) xs ≡ take i xs ++ x ∷ []
 take_next xs i x below is = take_more xs i x below ∙ ap (λ y. take i xs ++ y ∷ []) (sym is)
+
+pub take_next_so : {A : Type 0} (xs ys : List A) (i : ℕ) (x : A) → xs ≡ ys → i < length xs → x ≡ get_or xs i x → take (i + 1) ys ≡ take i ys ++ x ∷ []
+take_next_so xs ys i x same below is = ap (take (i + 1)) (sym same) ∙ take_next xs i x below is ∙ ap (λ l. take i l ++ x ∷ []) same

@@ -1,7 +1,12 @@
 pub mod CallLemmas
+pub mod CrashLemmas
+pub mod CrashRows
 pub mod FaultLemmas
 pub mod FolderLemmas
+pub mod GoesLemmas
+pub mod LeftLemmas
 pub mod ListingLemmas
 pub mod MemoryLemmas
+pub mod MomentLemmas
 pub mod PlanLemmas
 pub mod StoreLemmas

@@ -1,19 +1,18 @@
 -- What the calls of a site in memory come to.
-use Rattle.std.proofs.Common.{◌≡◌, ◌<◌, ◌≤◌, ◌-◌, cond, Bool, true, false, ℕ, List, [], ◌∷◌, ◌++◌, length, drop, Some, Result, Ok, Err, IsTrue, refl, sym, ap, subst, ◌∙◌, arith, length-take, length-drop}
-use Rattle.std.specs.Prelude.{is_ok, is_err, IfOk, MatchBool, slice_range, unwrap_or, option_map}
-use Rattle.std.proofs.lemmas.Bool.{lt-ltb, le-leb}
+use Rattle.std.proofs.Common.{◌≡◌, ◌≤◌, ◌-◌, cond, Bool, true, false, ℕ, List, [], ◌∷◌, ◌++◌, length, drop, Some, Result, Ok, Err, IsTrue, refl, sym, ap, subst, ◌∙◌, arith, length-take, length-drop}
+use Rattle.std.specs.Prelude.{is_ok, is_err, IfOk, MatchBool, if◌then◌else◌, slice_range, unwrap_or, option_map}
 use Rattle.std.specs.FinMap.{get, insert}
-use Rattle.ts_site.specs.declared.disk.Failed.{Failed}
 use Rattle.ts_site.specs.declared.call.Stored.{Stored}
 use Rattle.ts_site.specs.declared.call.Call.{Call}
 use Rattle.ts_site.specs.declared.call.Call.TheVariants.{Append}
 use Rattle.ts_site.specs.Folder.{Folder, no_files, length_at, appended, appended_file}
 use Rattle.ts_site.specs.Call.{content, folder_after, with_files, lies_in, call_lies_in}
 use Rattle.std.specs.List.{list_all}
-use Rattle.ts_site.specs.Recorder.{MemoryState, has_room, MakesDiskCall, MakesSayCall}
-use Rattle.ts_site.proofs.FolderLemmas.{is_same, same_folder, get_inserted, same_name}
+use Rattle.ts_site.specs.declared.room.Room.{Room}
+use Rattle.ts_site.specs.Recorder.{MemoryState}
+use Rattle.ts_site.proofs.FolderLemmas.{is_same, same_folder, get_inserted, get-insert_same, same_name}
 use Rattle.ts_site.proofs.CallLemmas.{folder_after-push, with_files-push}
-use Rattle.ts_site.proofs.StoreLemmas.{and_both, slice_range-appended, folder_after_same, with_files_same}
+use Rattle.ts_site.proofs.StoreLemmas.{slice_range-appended, folder_after_same, with_files_same}
 
 -- a file that has its content already
 pub insert_found : (m : Folder) (k v : List ℕ) → get m k ≡ Some v → insert m k v ≡ m
@@ -23,31 +22,23 @@ insert_found m k v found = same_folder (insert m k v) m (λ q. get_inserted m k 
     by_case q true same = sym (ap (get m) (same_name q k same) ∙ found)
     by_case q false other = refl
 
-room : (state : MemoryState) (bytes : ℕ) → 0 < state.calls_left → bytes ≤ state.bytes_left → has_room state bytes ≡ true
-room state bytes calls enough = and_both _ _ (lt-ltb _ _ calls) (le-leb _ _ enough)
-
-made : {P : Type 0} (Q : Type 0) (b : Bool) → b ≡ true → P → MatchBool b P Q
+-- a call for which there is room, and one for which there is none
+pub made : {P : Type 0} (Q : Type 0) (b : Bool) → b ≡ true → P → MatchBool b P Q
 made {P} Q b is p = subst (λ (c : Bool). MatchBool c P Q) (sym is) p
 
--- a call on the disk for which there is room
-pub disk_call_made : (r : Result (Unit {0}) Failed) (bytes : ℕ) (folder now : Folder) (left : ℕ) (old : MemoryState) → 0 < old.calls_left → bytes ≤ old.bytes_left
-    → r ≡ Ok tt → now ≡ folder → left ≡ old.bytes_left - bytes
-    → MakesDiskCall r bytes folder old (record { folder = now; told = old.told; calls_left = old.calls_left - 1; bytes_left = left; disk_faults = old.disk_faults; say_faults = old.say_faults })
-disk_call_made r bytes folder now left old calls enough ok is less =
-    let state : ◌≡◌ {A = MemoryState} (record { folder = now; told = old.told; calls_left = old.calls_left - 1; bytes_left = left; disk_faults = old.disk_faults; say_faults = old.say_faults })
-    (record { folder = folder; told = old.told; calls_left = old.calls_left - 1; bytes_left = old.bytes_left - bytes; disk_faults = old.disk_faults; say_faults = old.say_faults })
-    = λ i. record { folder = is i; told = old.told; calls_left = old.calls_left - 1; bytes_left = less i; disk_faults = old.disk_faults; say_faults = old.say_faults } in
-    made _ (has_room old bytes) (room old bytes calls enough) (ok, state)
+pub not_made : (P : Type 0) {Q : Type 0} (b : Bool) → b ≡ false → Q → MatchBool b P Q
+not_made P {Q} b is q = subst (λ (c : Bool). MatchBool c P Q) (sym is) q
 
--- a piece for which there is room
-pub say_call_made : (r : Result (Unit {0}) Failed) (bytes : ℕ) (piece told : List ℕ) (now : Folder) (old : MemoryState) → 0 < old.calls_left → bytes ≤ old.bytes_left
-    → r ≡ Ok tt → now ≡ old.folder → told ≡ old.told ++ piece
-    → MakesSayCall r bytes piece old (record { folder = now; told = told; calls_left = old.calls_left - 1; bytes_left = old.bytes_left - bytes; disk_faults = old.disk_faults; say_faults = old.say_faults })
-say_call_made r bytes piece told now old calls enough ok is longer =
-    let state : ◌≡◌ {A = MemoryState} (record { folder = now; told = told; calls_left = old.calls_left - 1; bytes_left = old.bytes_left - bytes; disk_faults = old.disk_faults; say_faults = old.say_faults })
-    (record { folder = old.folder; told = old.told ++ piece; calls_left = old.calls_left - 1; bytes_left = old.bytes_left - bytes; disk_faults = old.disk_faults; say_faults = old.say_faults })
-    = λ i. record { folder = is i; told = longer i; calls_left = old.calls_left - 1; bytes_left = old.bytes_left - bytes; disk_faults = old.disk_faults; say_faults = old.say_faults } in
-    made _ (has_room old bytes) (room old bytes calls enough) (ok, state)
+-- the room after a call
+pub room_taken : (b : Bool) (new some none : Room) → new ≡ (if b then some else none) → b ≡ true → new ≡ some
+room_taken b new some none is so = is ∙ ap (λ (c : Bool). if c then some else none) so
+
+pub room_passed : (b : Bool) (new some none : Room) → new ≡ (if b then some else none) → b ≡ false → new ≡ none
+room_passed b new some none is so = is ∙ ap (λ (c : Bool). if c then some else none) so
+
+-- the state with other room
+abbrev pub with_room : Room → MemoryState → MemoryState
+with_room room state = record state { calls_left = room.calls; bytes_left = room.bytes; until_stop = room.until_stop }
 
 -- the length of a file that is a part of the store
 pub length_found : (folder : Folder) (name store : List ℕ) (start end : ℕ) → get folder name ≡ Some (slice_range store start end) → start ≤ end → end ≤ length store → length_at folder name ≡ end - start
@@ -77,6 +68,15 @@ folder_appended store longer piece settled calls after name copy start end begin
     ∙ ap (λ n. insert (folder_after store calls base) n (content longer stored)) same
     ∙ ap (insert (folder_after store calls base) name) bytes
     ∙ sym (ap (appended_file (folder_after store calls base) name piece) found)
+
+-- what a crash leaves after it: the file reads so, and its bytes are unsettled
+pub content_stored : (store longer more : List ℕ) (stored : Stored) → longer ≡ store ++ more → stored.start ≡ length store → stored.end ≡ length longer → content longer stored ≡ more
+content_stored store longer more stored grown from to =
+    ap (λ k. slice_range longer k stored.end) from ∙ ap (slice_range longer (length store)) to
+    ∙ ap (λ s. slice_range s (length store) (length s)) grown ∙ slice_range-appended store more
+
+pub appended_reads : (folder : Folder) (name bytes piece : List ℕ) → get folder name ≡ Some bytes → get (appended folder name piece) name ≡ Some (bytes ++ piece)
+appended_reads folder name bytes piece found = ap (λ file. get (appended_file folder name piece file) name) found ∙ get-insert_same folder name (bytes ++ piece)
 
 -- the folder with one more settled file
 pub folder_set : (store longer bytes : List ℕ) (settled after : List Stored) (name copy : List ℕ) (begin finish : ℕ)

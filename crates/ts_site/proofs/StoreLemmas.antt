@@ -78,7 +78,7 @@ slice_range-appended store more =
     ap (take (length (store ++ more) - length store)) (drop-append_seam store more)
     ∙ take_all (length (store ++ more) - length store) more (omega (arith, length-append store more))
 
-content_same : (store more : List ℕ) (stored : Stored) → IsTrue (lies_in (length store) stored) → content (store ++ more) stored ≡ content store stored
+pub content_same : (store more : List ℕ) (stored : Stored) → IsTrue (lies_in (length store) stored) → content (store ++ more) stored ≡ content store stored
 content_same store more stored h =
     slice_range-append store more stored.start stored.end (leb-true _ _ (and_left _ _ h)) (leb-true _ _ (and_right _ _ h))
 

@@ -1,5 +1,7 @@
 -- What a site in memory tells, and the faults that are planned for it.
-use Rattle.std.specs.Prelude.{◌≡◌, ℕ, ◌-◌, ◌==◌, ◌&&◌, ◌/◌, Bool, true, false, List, [], ◌++◌, take, length, reverse, find, Option, None, Some, Result, Err, MatchBool, if◌then◌else◌}
+use Rattle.std.specs.Prelude.{◌≡◌, ℕ, ◌-◌, ◌==◌, ◌&&◌, Bool, true, false, List, [], length, reverse, find, Option, None, Some, is_none, Result, Err, MatchBool, if◌then◌else◌}
+use Rattle.std.specs.FinMap.{insert, remove}
+use Rattle.std.specs.Option.{option_map}
 use Rattle.ts_site.specs.declared.disk.Failed.{Failed}
 use Rattle.ts_site.specs.declared.call.Call.{Call}
 use Rattle.ts_site.specs.declared.memory_site.MemorySite.{MemorySite}
@@ -8,12 +10,14 @@ use Rattle.ts_site.specs.declared.plan.CallKind.TheVariants as kind
 use Rattle.ts_site.specs.declared.plan.FaultKind.{FaultKind}
 use Rattle.ts_site.specs.declared.plan.FaultKind.TheVariants.{Nothing, Happened, Half}
 use Rattle.ts_site.specs.declared.plan.Plan.{Plan}
-use Rattle.std.specs.Option.{option_map}
-use Rattle.ts_site.specs.Folder.{Folder}
+use Rattle.ts_site.specs.Crash.{CrashState, written, renamed, removed}
+use Rattle.ts_site.specs.Folder.{moved}
+use Rattle.ts_site.specs.Left.{first_half}
 use Rattle.ts_site.specs.Outside.{Outside}
-use Rattle.ts_site.specs.Recorder.{MemoryState, memory_state as recorded, memory_calls as calls_of, one_more, has_room, calls_with, MakesDiskCall, MakesSayCall}
+use Rattle.ts_site.specs.Recorder.{MemoryState, memory_state as recorded, memory_calls as calls_of, has_room, changed, said, used, refused, disk_fault, say_fault, calls_with, MakesDiskCall, MakesSayCall}
+use Rattle.ts_site.specs.Room.{is_stopped}
 
--- the folder, what was said, the room and the counts
+-- the folder, what was said, the room, the counts, and what a crash leaves
 abbrev pub memory_state : MemorySite → MemoryState
 memory_state site = recorded site.recorder
 
@@ -26,6 +30,9 @@ outside_of site = record {
   tells_output = true;
   told = (memory_state site).told;
   say_faults = (memory_state site).say_faults;
+  tells_images = true;
+  crash = (memory_state site).crash;
+  past = (memory_state site).past;
 }
 
 -- the calls that happened, the first of them first
@@ -64,25 +71,31 @@ is_due called plan = speaks_of called plan && (plan.left == 1)
 abbrev pub planned : CallKind → List Plan → Option FaultKind
 planned called plans = option_map (λ plan. plan.how) (find (is_due called) (reverse plans))
 
+-- the fault of a call that reads: after the planned stop each of them fails
+abbrev pub due : CallKind → List Plan → Option ℕ → Option FaultKind
+due called plans stop = if is_stopped stop then Some Nothing else planned called plans
+
 -- what a call that failed by plan leaves: of what it would change, nothing, all, or what half of its bytes change
 abbrev pub left_by : {A : Type 0} → FaultKind → A → A → A → A
 left_by Nothing all half none = none
 left_by Happened all half none = all
 left_by Half all half none = half
 
--- A call on the disk that uses these bytes, with the folder that it makes and the one that half of its bytes make. Where a fault
--- is planned for it, it fails, and uses its room all the same.
-abbrev pub DoesDiskCall : Option FaultKind → Result (Unit {0}) Failed → ℕ → Folder → Folder → MemoryState → MemoryState → Type 0
-DoesDiskCall None result bytes all half old new = MakesDiskCall result bytes all old new
-DoesDiskCall (Some how) result bytes all half old new =
+-- a call on the disk that fails by plan, uses its room all the same, and leaves this
+abbrev pub FailsByPlan : Result (Unit {0}) Failed → ℕ → MemoryState → MemoryState → MemoryState → Type 0
+FailsByPlan result bytes left old new =
     (result ≡ Err (record {}))
-    × MatchBool (has_room old bytes)
-    (new ≡ record old { folder = left_by how all half old.folder; calls_left = old.calls_left - 1; bytes_left = old.bytes_left - bytes; disk_faults = one_more old.disk_faults })
-    (new ≡ record old { disk_faults = one_more old.disk_faults })
+    × MatchBool (has_room old bytes) (new ≡ disk_fault (used bytes left)) (new ≡ disk_fault (refused old))
 
--- the half of a piece that comes first
-abbrev pub first_half : List ℕ → List ℕ
-first_half piece = take (length piece / 2) piece
+-- a call on the disk that uses these bytes, with the state that it comes to and the one that half of its bytes come to
+abbrev pub DoesDiskCall : Option FaultKind → Result (Unit {0}) Failed → ℕ → MemoryState → MemoryState → MemoryState → MemoryState → Type 0
+DoesDiskCall None result bytes all half old new = MakesDiskCall result bytes all old new
+DoesDiskCall (Some how) result bytes all half old new = FailsByPlan result bytes (left_by how all half old) old new
+
+-- The same of a call that settles. Where a fault is planned for it, nothing is settled.
+abbrev pub DoesSettlingCall : Option FaultKind → Result (Unit {0}) Failed → MemoryState → MemoryState → MemoryState → Type 0
+DoesSettlingCall None result all old new = MakesDiskCall result 0 all old new
+DoesSettlingCall (Some how) result all old new = FailsByPlan result 0 old old new
 
 -- the same of a call that says a piece
 abbrev pub DoesSayCall : Option FaultKind → Result (Unit {0}) Failed → List ℕ → MemoryState → MemoryState → Type 0
@@ -90,13 +103,27 @@ DoesSayCall None result piece old new = MakesSayCall result (length piece) piece
 DoesSayCall (Some how) result piece old new =
     (result ≡ Err (record {}))
     × MatchBool (has_room old (length piece))
-    (new ≡ record old { told = old.told ++ left_by how piece (first_half piece) []; calls_left = old.calls_left - 1; bytes_left = old.bytes_left - length piece; say_faults = one_more old.say_faults })
-    (new ≡ record old { say_faults = one_more old.say_faults })
+    (new ≡ say_fault (used (length piece) (said (left_by how piece (first_half piece) []) old)))
+    (new ≡ say_fault (refused old))
 
--- a call that reads: where a fault is planned for it, it counts one
+-- the state that a call comes to which changes files or names
+abbrev pub after_create : List ℕ → MemoryState → MemoryState
+after_create name old = changed (insert old.folder name []) (written name (Some []) old.crash) old
+
+abbrev pub after_rename : List ℕ → List ℕ → MemoryState → MemoryState
+after_rename from to old = changed (moved old.folder from to) (renamed from to old.crash) old
+
+abbrev pub after_remove : List ℕ → MemoryState → MemoryState
+after_remove name old = changed (remove old.folder name) (removed name old.crash) old
+
+-- the same of a call that settles, which makes this of what a crash leaves
+abbrev pub after_settling : CrashState → MemoryState → MemoryState
+after_settling crash old = changed old.folder crash old
+
+-- a call that reads: where it fails, it counts one
 abbrev pub state_after_reading : Option FaultKind → MemoryState → MemoryState
 state_after_reading None old = old
-state_after_reading (Some how) old = record old { disk_faults = one_more old.disk_faults }
+state_after_reading (Some how) old = disk_fault old
 
 -- whether a call happens whole: where a fault is planned for it, only where the fault leaves all
 abbrev pub happens_whole : Option FaultKind → Bool
@@ -106,3 +133,12 @@ happens_whole (Some how) = left_by how true false false
 -- the calls after one that uses no bytes: that call is recorded where it happens
 abbrev pub calls_after : Option FaultKind → MemoryState → Call → List Call → List Call
 calls_after plan old call calls = calls_with (has_room old 0 && happens_whole plan) call calls
+
+-- the same of a call that settles
+abbrev pub calls_after_settling : Option FaultKind → MemoryState → Call → List Call → List Call
+calls_after_settling plan old call calls = calls_with (has_room old 0 && is_none plan) call calls
+
+-- whether an append is recorded: where some of its bytes may be kept
+abbrev pub is_kept : Option FaultKind → Bool
+is_kept None = true
+is_kept (Some how) = left_by how true true false

@@ -5,23 +5,27 @@
 //! - [`Site`] is a disk with an output.
 //! - [`Source`] gives the bytes of an input.
 //! - [`MemorySite`] and [`MemorySource`] are a site and a source in memory, which tell everything and fail where that is
-//!   planned, by [`CallKind`] and [`FaultKind`].
+//!   planned, by [`CallKind`] and [`FaultKind`]. A site in memory also gives what a crash leaves of it, by [`CrashChoice`].
 //!
 //! An implementation tells what its folder, its output or its input holds, or tells nothing of it. The
 //! contracts of the calls speak of these meanings where they are told; the counts of faults hold always.
-//! A failure is answered exactly where its count rose.
+//! A failure is answered exactly where its count rose. What a crash may leave of a folder is a state of which each
+//! call makes another.
 #![tactic(auto)]
 
 mod call;
+mod crash;
 mod disk;
 mod file_name;
 mod memory_site;
 mod memory_source;
 mod plan;
 mod recorder;
+mod room;
 mod site;
 mod source;
 
+pub use crash::CrashChoice;
 pub use disk::{Disk, Failed, ListFail};
 pub use file_name::FileName;
 pub use memory_site::MemorySite;

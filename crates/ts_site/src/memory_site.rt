@@ -1,14 +1,15 @@
 // A site in memory.
-ghost use Rattle.std.specs.Prelude.{◌≡◌, ◌+◌, ◌/◌, ◌≤◌, ◌++◌, ◌∷◌, [], ℕ, true, false, Ok, Err, IsTrue, IfOk, IsOkAnd, OnOk, OnErr, IfErr, MatchOption, option_copied, option_map, length, map};
-ghost use Rattle.std.specs.FinMap.{get, insert, remove, contains_key};
-ghost use Rattle.ts_site.specs.Folder.{no_files, appended, moved, length_at, Reads, ReadsFile, AppendsNames, Extends};
-ghost use Rattle.ts_site.specs.Call.{happens, call_lies_in};
+ghost use Rattle.std.specs.Prelude.{◌≡◌, ◌+◌, ◌/◌, ◌≤◌, ◌++◌, ◌∷◌, ◌&&◌, [], ℕ, true, false, Some, Ok, Err, IsTrue, IfOk, IsOkAnd, OnOk, OnErr, IfErr, MatchOption, option_copied, option_map, length, map, take};
+ghost use Rattle.std.specs.FinMap.{get, contains_key};
+ghost use Rattle.ts_site.specs.Folder.{no_files, length_at, Reads, ReadsFile, AppendsNames, Extends};
+ghost use Rattle.ts_site.specs.Call.{call_lies_in, is_silent};
+ghost use Rattle.ts_site.specs.Crash.{IsImage};
 ghost use Rattle.ts_site.specs.MemorySite.{left_by};
 
 use crate::call::Call;
 use crate::plan::{Plan, count_call};
 use crate::recorder::Recorder;
-use crate::{CallKind, Disk, Failed, FaultKind, FileName, ListFail, Site};
+use crate::{CallKind, CrashChoice, Disk, Failed, FaultKind, FileName, ListFail, Site};
 use std::alloc::{AllocError, Global};
 
 /// A folder and an output in memory, which keeps all calls that happened, and fails where that is planned.
@@ -20,14 +21,15 @@ pub struct MemorySite {
 
 impl MemorySite {
     ghost use Rattle.ts_site.specs.declared.call.Call.TheVariants as call;
-    ghost use Rattle.ts_site.specs.MemorySite.{memory_state, memory_calls, plans_of, planned, nearer, state_after_reading, first_half, calls_after, DoesDiskCall, DoesSayCall};
-    ghost use Rattle.ts_site.specs.Recorder.{calls_with, has_room, RecordsAppend};
+    ghost use Rattle.ts_site.specs.Left.{first_half, AreLeft};
+    ghost use Rattle.ts_site.specs.MemorySite.{memory_state, memory_calls, plans_of, planned, due, nearer, state_after_reading, calls_after, calls_after_settling, is_kept, DoesDiskCall, DoesSettlingCall, DoesSayCall, FailsByPlan};
+    ghost use Rattle.ts_site.specs.Recorder.{after_append, after_call, calls_with, fresh, has_room, with_settled, RecordsAppend};
 
     /// An empty folder without faults to come, with room for this many calls that change the folder, settle it or
     /// say something, and for this many bytes. An append uses as many bytes as its file has with the whole piece
     /// added, and a say as many as its piece has.
     pub fn new(alloc: Global, calls: u64, bytes: u64) -> Result<MemorySite, AllocError>
-        ensures state { IfOk result (λ site. memory_state site ≡ record { folder = no_files; told = []; calls_left = calls; bytes_left = bytes; disk_faults = 0; say_faults = 0 }) }
+        ensures state { IfOk result (λ site. memory_state site ≡ fresh no_files calls bytes) }
         ensures no_calls { IfOk result (λ site. memory_calls site ≡ []) }
         ensures no_plans { IfOk result (λ site. plans_of site ≡ []) }
     {
@@ -61,8 +63,7 @@ impl MemorySite {
     /// Sets a file that was there from the start.
     pub fn put_file(&mut self, name: &FileName, bytes: &[u8]) -> Result<(), AllocError>
         requires { memory_calls self.old ≡ [] }
-        ensures ok { OnOk result (memory_state self.new
-            ≡ record (memory_state self.old) { folder = insert (memory_state self.old).folder name.now bytes.now }) }
+        ensures ok { OnOk result (memory_state self.new ≡ with_settled name.now bytes.now (memory_state self.old)) }
         ensures err { OnErr result (memory_state self.new ≡ memory_state self.old) }
         ensures no_calls { memory_calls self.new ≡ [] }
         ensures plans { plans_of self.new ≡ plans_of self.old }
@@ -83,29 +84,49 @@ impl MemorySite {
         Ok(())
     }
 
-    /// Counts a call that reads, and tells whether it fails by plan.
-    fn fails_to_read(&mut self, kind: CallKind) -> bool
-        ensures fails { MatchOption (planned kind (plans_of self.old)) (result ≡ false) (λ _. result ≡ true) }
-        ensures plans { plans_of self.new ≡ map (nearer kind) (plans_of self.old) }
-        ensures state { memory_state self.new ≡ state_after_reading (planned kind (plans_of self.old)) (memory_state self.old) }
+    /// Plans that after this many further calls that change the folder, settle it or say something, each later call of any
+    /// kind fails with nothing done. A second plan takes the place of the first.
+    pub fn stop_after(&mut self, calls: u64)
+        ensures state { memory_state self.new ≡ record (memory_state self.old) { until_stop = Some calls } }
+        ensures plans { plans_of self.new ≡ plans_of self.old }
         ensures calls { memory_calls self.new ≡ memory_calls self.old }
     {
-        match count_call(&mut self.plans, kind) {
-            None => false,
-            Some(_) => {
-                self.recorder.count_disk_fault();
-                true
-            }
-        }
+        self.recorder.stop_after(calls);
+    }
+
+    /// A new site that a crash at this moment may leave: its folder is settled and has what the choice says, nothing was said, no
+    /// fault is to come, and there is the room that `new` took.
+    pub fn crashed(&self, alloc: Global, choice: CrashChoice) -> Result<MemorySite, AllocError>
+        ensures image { IfOk result (λ left. IsImage (memory_state self.now).crash (memory_state left).folder) }
+        ensures files { IfOk result (λ left. AreLeft choice (memory_state self.now) (memory_state left).folder) }
+        ensures state { IfOk result (λ left. memory_state left ≡ fresh (memory_state left).folder (memory_state self.now).all_calls (memory_state self.now).all_bytes) }
+        ensures no_calls { IfOk result (λ left. memory_calls left ≡ []) }
+        ensures no_plans { IfOk result (λ left. plans_of left ≡ []) }
+    {
+        Ok(MemorySite {
+            recorder: self.recorder.crashed(alloc, choice)?,
+            plans: Vec::new(alloc),
+        })
+    }
+
+    /// Counts a call that reads, and tells whether it fails, by plan or after the planned stop.
+    fn fails_to_read(&mut self, kind: CallKind) -> bool
+        ensures fails { MatchOption (due kind (plans_of self.old) (memory_state self.old).until_stop) (result ≡ false) (λ _. result ≡ true) }
+        ensures plans { plans_of self.new ≡ map (nearer kind) (plans_of self.old) }
+        ensures state { memory_state self.new ≡ state_after_reading (due kind (plans_of self.old) (memory_state self.old).until_stop) (memory_state self.old) }
+        ensures calls { memory_calls self.new ≡ memory_calls self.old }
+    {
+        let planned = count_call(&mut self.plans, kind);
+        self.recorder.fails_to_read(planned.is_some())
     }
 
     /// Makes a call that uses no bytes, or fails by plan.
     fn make(&mut self, kind: CallKind, call: Call) -> Result<(), Failed>
-        requires { (size : ℕ) → IsTrue (call_lies_in size call) }
+        requires lies { (size : ℕ) → IsTrue (call_lies_in size call) }
+        requires silent { is_silent call ≡ true }
         ensures plans { plans_of self.new ≡ map (nearer kind) (plans_of self.old) }
         ensures made { DoesDiskCall (planned kind (plans_of self.old)) result 0
-            (happens self.old.recorder.store.items call (memory_state self.old).folder) (memory_state self.old).folder
-            (memory_state self.old) (memory_state self.new) }
+            (after_call self.old.recorder.store.items call (memory_state self.old)) (memory_state self.old) (memory_state self.old) (memory_state self.new) }
         ensures calls { memory_calls self.new ≡ calls_after (planned kind (plans_of self.old)) (memory_state self.old) call (memory_calls self.old) }
     {
         match count_call(&mut self.plans, kind) {
@@ -115,7 +136,25 @@ impl MemorySite {
                 self.recorder.spoil(made)
             }
             Some(FaultKind::Nothing | FaultKind::Half) => {
-                let made = self.recorder.pass();
+                let made = self.recorder.pass(0);
+                self.recorder.spoil(made)
+            }
+        }
+    }
+
+    /// Makes a call that settles, or fails by plan, and then settles nothing.
+    fn settle(&mut self, kind: CallKind, call: Call) -> Result<(), Failed>
+        requires lies { (size : ℕ) → IsTrue (call_lies_in size call) }
+        requires silent { is_silent call ≡ true }
+        ensures plans { plans_of self.new ≡ map (nearer kind) (plans_of self.old) }
+        ensures made { DoesSettlingCall (planned kind (plans_of self.old)) result
+            (after_call self.old.recorder.store.items call (memory_state self.old)) (memory_state self.old) (memory_state self.new) }
+        ensures calls { memory_calls self.new ≡ calls_after_settling (planned kind (plans_of self.old)) (memory_state self.old) call (memory_calls self.old) }
+    {
+        match count_call(&mut self.plans, kind) {
+            None => self.recorder.make(call),
+            Some(_) => {
+                let made = self.recorder.pass(0);
                 self.recorder.spoil(made)
             }
         }
@@ -126,18 +165,34 @@ impl MemorySite {
         requires { IsTrue (contains_key (memory_state self.old).folder name.now) }
         ensures plans { plans_of self.new ≡ map (nearer CallKind.Append) (plans_of self.old) }
         ensures made { DoesDiskCall (planned CallKind.Append (plans_of self.old)) result (length_at (memory_state self.old).folder name.now + length bytes.now)
-            (appended (memory_state self.old).folder name.now bytes.now) (appended (memory_state self.old).folder name.now (first_half bytes.now))
+            (after_append name.now bytes.now (memory_state self.old)) (after_append name.now (first_half bytes.now) (memory_state self.old))
             (memory_state self.old) (memory_state self.new) }
-        ensures calls { RecordsAppend (has_room (memory_state self.old) (length_at (memory_state self.old).folder name.now + length bytes.now)) name.now
-            (memory_calls self.old) (memory_calls self.new) }
+        ensures calls { RecordsAppend (has_room (memory_state self.old) (length_at (memory_state self.old).folder name.now + length bytes.now)
+            && is_kept (planned CallKind.Append (plans_of self.old))) name.now (memory_calls self.old) (memory_calls self.new) }
     {
         match count_call(&mut self.plans, CallKind::Append) {
             None => self.recorder.append(name, bytes, bytes.len()),
-            Some(how) => {
-                let made = self.recorder.append(name, bytes, kept_by(how, bytes.len()));
+            Some(FaultKind::Nothing) => {
+                let made = self.recorder.pass_append(name, bytes);
                 self.recorder.spoil(made)
             }
+            Some(FaultKind::Happened) => self.append_in_vain(name, bytes, bytes.len()),
+            Some(FaultKind::Half) => self.append_in_vain(name, bytes, bytes.len() / 2),
         }
+    }
+
+    /// Adds the first `kept` of the bytes at the end of a file, and fails.
+    fn append_in_vain(&mut self, name: &FileName, bytes: &[u8], kept: usize) -> Result<(), Failed>
+        requires standing { IsTrue (contains_key (memory_state self.old).folder name.now) }
+        requires within { kept ≤ length bytes.now }
+        ensures plans { plans_of self.new ≡ plans_of self.old }
+        ensures made { FailsByPlan result (length_at (memory_state self.old).folder name.now + length bytes.now)
+            (after_append name.now (take kept bytes.now) (memory_state self.old)) (memory_state self.old) (memory_state self.new) }
+        ensures calls { RecordsAppend (has_room (memory_state self.old) (length_at (memory_state self.old).folder name.now + length bytes.now)) name.now
+            (memory_calls self.old) (memory_calls self.new) }
+    {
+        let made = self.recorder.append(name, bytes, kept);
+        self.recorder.spoil(made)
     }
 
     /// Says a piece, or fails by plan.
@@ -169,19 +224,24 @@ fn kept_by(how: FaultKind, len: usize) -> usize
 
 impl Disk for MemorySite {
     ghost use Rattle.ts_site.specs.declared.call.Call.TheVariants as call;
-    ghost use Rattle.ts_site.specs.MemorySite.{memory_state, memory_calls, outside_of, plans_of, planned, nearer, calls_after, DoesDiskCall, first_half, state_after_reading};
-    ghost use Rattle.ts_site.specs.Recorder.{has_room, RecordsAppend};
+    ghost use Rattle.ts_site.specs.Crash.{synced, names_settled, settled};
+    ghost use Rattle.ts_site.specs.Left.{first_half};
+    ghost use Rattle.ts_site.specs.Newest.{memory_reads};
+    ghost use Rattle.ts_site.specs.MemorySite.{memory_state, memory_calls, outside_of, plans_of, planned, due, nearer, after_create, after_rename, after_remove, after_settling, calls_after, calls_after_settling, is_kept, DoesDiskCall, DoesSettlingCall, state_after_reading};
+    ghost use Rattle.ts_site.specs.Recorder.{after_append, has_room, RecordsAppend};
     ghost use Rattle.ts_site.specs.declared.disk.ListFail.TheVariants as list_fail;
 
     ghost outside = { outside_of };
 
+    ghost reads_image = { memory_reads };
+
     fn list(&mut self, alloc: Global, into: &mut Vec<FileName>) -> Result<(), ListFail>
         ensures front { Extends into.old.items into.new.items }
         ensures names { OnOk result (AppendsNames (memory_state self.old).folder into.old.items into.new.items) }
-        ensures fails { MatchOption (planned CallKind.List (plans_of self.old)) (IfErr result (λ e. e ≡ list_fail.Memory))
+        ensures fails { MatchOption (due CallKind.List (plans_of self.old) (memory_state self.old).until_stop) (IfErr result (λ e. e ≡ list_fail.Memory))
             (λ _. (result ≡ Err list_fail.Failed) × (into.new.items ≡ into.old.items)) }
         ensures plans { plans_of self.new ≡ map (nearer CallKind.List) (plans_of self.old) }
-        ensures state { memory_state self.new ≡ state_after_reading (planned CallKind.List (plans_of self.old)) (memory_state self.old) }
+        ensures state { memory_state self.new ≡ state_after_reading (due CallKind.List (plans_of self.old) (memory_state self.old).until_stop) (memory_state self.old) }
         ensures calls { memory_calls self.new ≡ memory_calls self.old }
     {
         if self.fails_to_read(CallKind::List) {
@@ -197,9 +257,9 @@ impl Disk for MemorySite {
     }
 
     fn size(&mut self, name: &FileName) -> Result<Option<u64>, Failed>
-        ensures size { MatchOption (planned CallKind.Size (plans_of self.old)) (result ≡ Ok (option_map length (get (memory_state self.old).folder name.now))) (λ _. result ≡ Err (record {})) }
+        ensures size { MatchOption (due CallKind.Size (plans_of self.old) (memory_state self.old).until_stop) (result ≡ Ok (option_map length (get (memory_state self.old).folder name.now))) (λ _. result ≡ Err (record {})) }
         ensures plans { plans_of self.new ≡ map (nearer CallKind.Size) (plans_of self.old) }
-        ensures state { memory_state self.new ≡ state_after_reading (planned CallKind.Size (plans_of self.old)) (memory_state self.old) }
+        ensures state { memory_state self.new ≡ state_after_reading (due CallKind.Size (plans_of self.old) (memory_state self.old).until_stop) (memory_state self.old) }
         ensures calls { memory_calls self.new ≡ memory_calls self.old }
     {
         if self.fails_to_read(CallKind::Size) {
@@ -211,10 +271,10 @@ impl Disk for MemorySite {
     fn read_at(&mut self, name: &FileName, place: u64, into: &mut [u8]) -> Result<usize, Failed>
         requires { IsTrue (contains_key (memory_state self.old).folder name.now) }
         ensures within { IfOk result (λ count. count ≤ length into.old) }
-        ensures read { MatchOption (planned CallKind.ReadAt (plans_of self.old)) (IsOkAnd result (λ count. ReadsFile (get (memory_state self.old).folder name.now) place count into.old into.new))
+        ensures read { MatchOption (due CallKind.ReadAt (plans_of self.old) (memory_state self.old).until_stop) (IsOkAnd result (λ count. ReadsFile (get (memory_state self.old).folder name.now) place count into.old into.new))
             (λ _. (result ≡ Err (record {})) × (into.new ≡ into.old)) }
         ensures plans { plans_of self.new ≡ map (nearer CallKind.ReadAt) (plans_of self.old) }
-        ensures state { memory_state self.new ≡ state_after_reading (planned CallKind.ReadAt (plans_of self.old)) (memory_state self.old) }
+        ensures state { memory_state self.new ≡ state_after_reading (due CallKind.ReadAt (plans_of self.old) (memory_state self.old).until_stop) (memory_state self.old) }
         ensures calls { memory_calls self.new ≡ memory_calls self.old }
     {
         if self.fails_to_read(CallKind::ReadAt) {
@@ -225,7 +285,7 @@ impl Disk for MemorySite {
 
     fn create(&mut self, name: &FileName) -> Result<(), Failed>
         ensures plans { plans_of self.new ≡ map (nearer CallKind.Create) (plans_of self.old) }
-        ensures made { DoesDiskCall (planned CallKind.Create (plans_of self.old)) result 0 (insert (memory_state self.old).folder name.now []) (memory_state self.old).folder
+        ensures made { DoesDiskCall (planned CallKind.Create (plans_of self.old)) result 0 (after_create name.now (memory_state self.old)) (memory_state self.old)
             (memory_state self.old) (memory_state self.new) }
         ensures calls { memory_calls self.new ≡ calls_after (planned CallKind.Create (plans_of self.old)) (memory_state self.old) (call.Create name.now) (memory_calls self.old) }
     {
@@ -236,26 +296,26 @@ impl Disk for MemorySite {
         requires { IsTrue (contains_key (memory_state self.old).folder name.now) }
         ensures plans { plans_of self.new ≡ map (nearer CallKind.Append) (plans_of self.old) }
         ensures made { DoesDiskCall (planned CallKind.Append (plans_of self.old)) result (length_at (memory_state self.old).folder name.now + length bytes.now)
-            (appended (memory_state self.old).folder name.now bytes.now) (appended (memory_state self.old).folder name.now (first_half bytes.now))
+            (after_append name.now bytes.now (memory_state self.old)) (after_append name.now (first_half bytes.now) (memory_state self.old))
             (memory_state self.old) (memory_state self.new) }
-        ensures calls { RecordsAppend (has_room (memory_state self.old) (length_at (memory_state self.old).folder name.now + length bytes.now)) name.now
-            (memory_calls self.old) (memory_calls self.new) }
+        ensures calls { RecordsAppend (has_room (memory_state self.old) (length_at (memory_state self.old).folder name.now + length bytes.now)
+            && is_kept (planned CallKind.Append (plans_of self.old))) name.now (memory_calls self.old) (memory_calls self.new) }
     {
         self.append_bytes(name, bytes)
     }
 
     fn sync(&mut self, name: &FileName) -> Result<(), Failed>
         ensures plans { plans_of self.new ≡ map (nearer CallKind.Sync) (plans_of self.old) }
-        ensures made { DoesDiskCall (planned CallKind.Sync (plans_of self.old)) result 0 (memory_state self.old).folder (memory_state self.old).folder
+        ensures made { DoesSettlingCall (planned CallKind.Sync (plans_of self.old)) result (after_settling (synced name.now (memory_state self.old).crash) (memory_state self.old))
             (memory_state self.old) (memory_state self.new) }
-        ensures calls { memory_calls self.new ≡ calls_after (planned CallKind.Sync (plans_of self.old)) (memory_state self.old) (call.Sync name.now) (memory_calls self.old) }
+        ensures calls { memory_calls self.new ≡ calls_after_settling (planned CallKind.Sync (plans_of self.old)) (memory_state self.old) (call.Sync name.now) (memory_calls self.old) }
     {
-        self.make(CallKind::Sync, Call::Sync(name.copy()))
+        self.settle(CallKind::Sync, Call::Sync(name.copy()))
     }
 
     fn rename(&mut self, from: &FileName, to: &FileName) -> Result<(), Failed>
         ensures plans { plans_of self.new ≡ map (nearer CallKind.Rename) (plans_of self.old) }
-        ensures made { DoesDiskCall (planned CallKind.Rename (plans_of self.old)) result 0 (moved (memory_state self.old).folder from.now to.now) (memory_state self.old).folder
+        ensures made { DoesDiskCall (planned CallKind.Rename (plans_of self.old)) result 0 (after_rename from.now to.now (memory_state self.old)) (memory_state self.old)
             (memory_state self.old) (memory_state self.new) }
         ensures calls { memory_calls self.new ≡ calls_after (planned CallKind.Rename (plans_of self.old)) (memory_state self.old) (call.Rename from.now to.now) (memory_calls self.old) }
     {
@@ -270,7 +330,7 @@ impl Disk for MemorySite {
 
     fn remove(&mut self, name: &FileName) -> Result<(), Failed>
         ensures plans { plans_of self.new ≡ map (nearer CallKind.Remove) (plans_of self.old) }
-        ensures made { DoesDiskCall (planned CallKind.Remove (plans_of self.old)) result 0 (remove (memory_state self.old).folder name.now) (memory_state self.old).folder
+        ensures made { DoesDiskCall (planned CallKind.Remove (plans_of self.old)) result 0 (after_remove name.now (memory_state self.old)) (memory_state self.old)
             (memory_state self.old) (memory_state self.new) }
         ensures calls { memory_calls self.new ≡ calls_after (planned CallKind.Remove (plans_of self.old)) (memory_state self.old) (call.Remove name.now) (memory_calls self.old) }
     {
@@ -279,20 +339,20 @@ impl Disk for MemorySite {
 
     fn sync_names(&mut self) -> Result<(), Failed>
         ensures plans { plans_of self.new ≡ map (nearer CallKind.SyncNames) (plans_of self.old) }
-        ensures made { DoesDiskCall (planned CallKind.SyncNames (plans_of self.old)) result 0 (memory_state self.old).folder (memory_state self.old).folder
+        ensures made { DoesSettlingCall (planned CallKind.SyncNames (plans_of self.old)) result (after_settling (names_settled (memory_state self.old).crash) (memory_state self.old))
             (memory_state self.old) (memory_state self.new) }
-        ensures calls { memory_calls self.new ≡ calls_after (planned CallKind.SyncNames (plans_of self.old)) (memory_state self.old) call.SyncNames (memory_calls self.old) }
+        ensures calls { memory_calls self.new ≡ calls_after_settling (planned CallKind.SyncNames (plans_of self.old)) (memory_state self.old) call.SyncNames (memory_calls self.old) }
     {
-        self.make(CallKind::SyncNames, Call::SyncNames)
+        self.settle(CallKind::SyncNames, Call::SyncNames)
     }
 
     fn barrier(&mut self) -> Result<(), Failed>
         ensures plans { plans_of self.new ≡ map (nearer CallKind.Barrier) (plans_of self.old) }
-        ensures made { DoesDiskCall (planned CallKind.Barrier (plans_of self.old)) result 0 (memory_state self.old).folder (memory_state self.old).folder
+        ensures made { DoesSettlingCall (planned CallKind.Barrier (plans_of self.old)) result (after_settling (settled (memory_state self.old).folder) (memory_state self.old))
             (memory_state self.old) (memory_state self.new) }
-        ensures calls { memory_calls self.new ≡ calls_after (planned CallKind.Barrier (plans_of self.old)) (memory_state self.old) call.Barrier (memory_calls self.old) }
+        ensures calls { memory_calls self.new ≡ calls_after_settling (planned CallKind.Barrier (plans_of self.old)) (memory_state self.old) call.Barrier (memory_calls self.old) }
     {
-        self.make(CallKind::Barrier, Call::Barrier)
+        self.settle(CallKind::Barrier, Call::Barrier)
     }
 }
 

@@ -7,7 +7,7 @@ use crate::{Disk, Failed};
 
 /// A folder of files and an output, which share one clock.
 pub trait Site: Disk {
-    /// Says a piece. After a failure a front of it was said.
+    /// Says a piece. After a failure a front of it was said, and at each moment of the call.
     fn say(&mut self, piece: &[u8]) -> Result<(), Failed>
         ensures told { IsTrue (Self.outside self.old).tells_output → Says result piece.now (Self.outside self.old).told (Self.outside self.new).told }
         ensures says { OnlySays (is_err result) (Self.outside self.old) (Self.outside self.new) };

@@ -1,4 +1,5 @@
 use super::*;
+use std::alloc::Global;
 use std::test::Fail;
 
 #[test]
@@ -151,5 +152,92 @@ fn names_keep_the_rule(rt: HostRuntime) -> Result<(), Fail> {
     assert!(rt; FileName::of(b"a b").is_none());
     assert!(rt; FileName::of(&[b'a'; 206]).is_some());
     assert!(rt; FileName::of(&[b'a'; 207]).is_none());
+    Ok(())
+}
+
+// Writes a file and doesn't settle it.
+#[tactic(auto, using(crate::proofs::ListingLemmas::stands_same))]
+fn write_loose(site: &mut MemorySite) -> Result<(), Fail> {
+    let loose = FileName::of(b"loose").ok_or("name")?;
+    site.create(&loose)?;
+    site.append(&loose, b"abcd")?;
+    Ok(())
+}
+
+// A file that was there from the start, one that was moved, and one whose bytes are unsettled.
+fn unsettled(alloc: Global) -> Result<MemorySite, Fail> {
+    let mut site = MemorySite::new(alloc, 20, 100)?;
+    let from = FileName::of(b"from").ok_or("name")?;
+    site.put_file(&FileName::of(b"kept").ok_or("name")?, b"kept")?;
+    site.put_file(&from, b"moved")?;
+    site.rename(&from, &FileName::of(b"to").ok_or("name")?)?;
+    write_loose(&mut site)?;
+    Ok(site)
+}
+
+// Whether a file of the site has these bytes.
+fn holds(site: &MemorySite, name: &[u8], bytes: Option<&[u8]>) -> Result<bool, Fail> {
+    let name = FileName::of(name).ok_or("name")?;
+    Ok(site.file(&name) == bytes)
+}
+
+#[test]
+fn a_crash_leaves_one_of_three(rt: HostRuntime) -> Result<(), Fail> {
+    let alloc = rt.alloc();
+    let site = unsettled(alloc)?;
+    for (choice, from, to, loose) in [
+        (CrashChoice::Oldest, Some(b"moved".as_slice()), None, None),
+        (
+            CrashChoice::Newest,
+            None,
+            Some(b"moved".as_slice()),
+            Some(b"abcd".as_slice()),
+        ),
+        (
+            CrashChoice::Torn,
+            None,
+            Some(b"moved".as_slice()),
+            Some(b"ab".as_slice()),
+        ),
+    ] {
+        let left = site.crashed(alloc, choice)?;
+        assert!(rt; holds(&left, b"kept", Some(b"kept".as_slice()))?);
+        assert!(rt; holds(&left, b"from", from)?);
+        assert!(rt; holds(&left, b"to", to)?);
+        assert!(rt; holds(&left, b"loose", loose)?);
+        assert_eq!(rt; left.room(), (20, 100));
+    }
+    Ok(())
+}
+
+#[test]
+fn after_a_barrier_all_is_left(rt: HostRuntime) -> Result<(), Fail> {
+    let alloc = rt.alloc();
+    let mut site = unsettled(alloc)?;
+    site.barrier()?;
+    for choice in [CrashChoice::Oldest, CrashChoice::Newest, CrashChoice::Torn] {
+        let left = site.crashed(alloc, choice)?;
+        assert!(rt; holds(&left, b"from", None)?);
+        assert!(rt; holds(&left, b"to", Some(b"moved".as_slice()))?);
+        assert!(rt; holds(&left, b"loose", Some(b"abcd".as_slice()))?);
+    }
+    Ok(())
+}
+
+#[test]
+fn after_the_stop_every_call_fails(rt: HostRuntime) -> Result<(), Fail> {
+    let alloc = rt.alloc();
+    let mut site = MemorySite::new(alloc, 20, 100)?;
+    let name = FileName::of(b"name").ok_or("name")?;
+    site.stop_after(1);
+    site.stop_after(2);
+    site.create(&name)?;
+    assert_eq!(rt; site.size(&name)?, Some(0));
+    site.say(b"said")?;
+    assert!(rt; site.say(b"more").is_err());
+    assert!(rt; site.size(&name).is_err());
+    assert!(rt; site.append(&name, b"bytes").is_err());
+    assert_eq!(rt; site.told(), b"said".as_slice());
+    assert_eq!(rt; site.room(), (18, 96));
     Ok(())
 }

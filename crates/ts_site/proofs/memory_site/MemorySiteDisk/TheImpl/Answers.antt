@@ -1,132 +1,74 @@
-use Rattle.std.proofs.Common.{refl, inr, ◌+◌, [], length}
-use Rattle.std.specs.FinMap.{insert, remove}
+use Rattle.std.proofs.Common.{◌+◌, length}
+use Rattle.std.specs.FinMap.{remove}
 use Rattle.ts_site.specs.declared.plan.CallKind.TheVariants as kind
-use Rattle.ts_site.specs.Folder.{appended, moved, length_at}
-use Rattle.ts_site.specs.MemorySite.{memory_state, plans_of, planned, first_half}
-use Rattle.ts_site.proofs.FaultLemmas.{disk_counts, disk_says_nothing, disk_same, disk_writes, disk_renames, unchanged_at, appended_at, reading_leaves, reading_counts, reading_gives, list_counts, size_counts, size_gives}
+use Rattle.ts_site.specs.Crash.{synced, renamed, removed, names_settled, settled}
+use Rattle.ts_site.specs.Folder.{moved, length_at}
+use Rattle.ts_site.specs.MemorySite.{memory_state, plans_of, planned, due}
+use Rattle.ts_site.proofs.CrashLemmas.{sync_adds_none, sync_names_adds_none, barrier_adds_none}
+use Rattle.ts_site.proofs.FaultLemmas.{create_told, append_told, names_told, settling_told, reading_told, reading_counts, reading_gives, list_counts, size_counts, size_gives}
+use Rattle.ts_site.specs.Newest.{newest_after}
 use Rattle.ts_site.proofs.memory_site.MemorySiteDisk.TheImpl.Goals as goal
 
 pub create-tells : goal.create-tells
 create-tells c =
-    let quiet = disk_says_nothing (planned kind.Create (plans_of c.args.self.now)) c.result 0 (insert (memory_state c.args.self.now).folder c.args.name.now []) (memory_state c.args.self.now).folder (memory_state c.args.self.now) (memory_state c.new.self.now) c.ensures.made in
-    record {
-      folder = λ _. disk_writes (planned kind.Create (plans_of c.args.self.now)) c.result 0 c.args.name.now (insert (memory_state c.args.self.now).folder c.args.name.now []) (memory_state c.args.self.now).folder (memory_state c.args.self.now) (memory_state c.new.self.now) (inr ([], refl)) (unchanged_at (memory_state c.args.self.now).folder c.args.name.now) c.ensures.made;
-      disk = record {
-        telling = refl;
-        counts = disk_counts (planned kind.Create (plans_of c.args.self.now)) c.result 0 (insert (memory_state c.args.self.now).folder c.args.name.now []) (memory_state c.args.self.now).folder (memory_state c.args.self.now) (memory_state c.new.self.now) c.args.self.now.recorder.disk_count c.ensures.made;
-        output = record { same_telling = refl; same_told = quiet.0; same_faults = quiet.1 };
-      };
-    }
+    let told = create_told (planned kind.Create (plans_of c.args.self.now)) c.result c.args.name.now (memory_state c.args.self.now) (memory_state c.new.self.now) c.args.self.now.recorder.disk_count c.ensures.made in
+    record { folder = λ _. told.0; crash = told.1; disk = told.2 }
 
 pub append-tells : goal.append-tells
 append-tells c =
-    let quiet = disk_says_nothing (planned kind.Append (plans_of c.args.self.now)) c.result (length_at (memory_state c.args.self.now).folder c.args.name.now + length c.args.bytes.now) (appended (memory_state c.args.self.now).folder c.args.name.now c.args.bytes.now) (appended (memory_state c.args.self.now).folder c.args.name.now (first_half c.args.bytes.now)) (memory_state c.args.self.now) (memory_state c.new.self.now) c.ensures.made in
-    record {
-      folder = λ _. disk_writes (planned kind.Append (plans_of c.args.self.now)) c.result (length_at (memory_state c.args.self.now).folder c.args.name.now + length c.args.bytes.now) c.args.name.now (appended (memory_state c.args.self.now).folder c.args.name.now c.args.bytes.now) (appended (memory_state c.args.self.now).folder c.args.name.now (first_half c.args.bytes.now)) (memory_state c.args.self.now) (memory_state c.new.self.now) (appended_at (memory_state c.args.self.now).folder c.args.name.now c.args.bytes.now) (appended_at (memory_state c.args.self.now).folder c.args.name.now (first_half c.args.bytes.now)) c.ensures.made;
-      disk = record {
-        telling = refl;
-        counts = disk_counts (planned kind.Append (plans_of c.args.self.now)) c.result (length_at (memory_state c.args.self.now).folder c.args.name.now + length c.args.bytes.now) (appended (memory_state c.args.self.now).folder c.args.name.now c.args.bytes.now) (appended (memory_state c.args.self.now).folder c.args.name.now (first_half c.args.bytes.now)) (memory_state c.args.self.now) (memory_state c.new.self.now) c.args.self.now.recorder.disk_count c.ensures.made;
-        output = record { same_telling = refl; same_told = quiet.0; same_faults = quiet.1 };
-      };
-    }
-
-pub sync-tells : goal.sync-tells
-sync-tells c =
-    let quiet = disk_says_nothing (planned kind.Sync (plans_of c.args.self.now)) c.result 0 (memory_state c.args.self.now).folder (memory_state c.args.self.now).folder (memory_state c.args.self.now) (memory_state c.new.self.now) c.ensures.made in
-    record {
-      reads = record {
-        telling = refl;
-        folder = λ _. disk_same (planned kind.Sync (plans_of c.args.self.now)) c.result 0 (memory_state c.args.self.now) (memory_state c.new.self.now) c.ensures.made;
-        counts = disk_counts (planned kind.Sync (plans_of c.args.self.now)) c.result 0 (memory_state c.args.self.now).folder (memory_state c.args.self.now).folder (memory_state c.args.self.now) (memory_state c.new.self.now) c.args.self.now.recorder.disk_count c.ensures.made;
-        output = record { same_telling = refl; same_told = quiet.0; same_faults = quiet.1 };
-      };
-    }
-
-pub sync_names-tells : goal.sync_names-tells
-sync_names-tells c =
-    let quiet = disk_says_nothing (planned kind.SyncNames (plans_of c.args.self.now)) c.result 0 (memory_state c.args.self.now).folder (memory_state c.args.self.now).folder (memory_state c.args.self.now) (memory_state c.new.self.now) c.ensures.made in
-    record {
-      reads = record {
-        telling = refl;
-        folder = λ _. disk_same (planned kind.SyncNames (plans_of c.args.self.now)) c.result 0 (memory_state c.args.self.now) (memory_state c.new.self.now) c.ensures.made;
-        counts = disk_counts (planned kind.SyncNames (plans_of c.args.self.now)) c.result 0 (memory_state c.args.self.now).folder (memory_state c.args.self.now).folder (memory_state c.args.self.now) (memory_state c.new.self.now) c.args.self.now.recorder.disk_count c.ensures.made;
-        output = record { same_telling = refl; same_told = quiet.0; same_faults = quiet.1 };
-      };
-    }
-
-pub barrier-tells : goal.barrier-tells
-barrier-tells c =
-    let quiet = disk_says_nothing (planned kind.Barrier (plans_of c.args.self.now)) c.result 0 (memory_state c.args.self.now).folder (memory_state c.args.self.now).folder (memory_state c.args.self.now) (memory_state c.new.self.now) c.ensures.made in
-    record {
-      reads = record {
-        telling = refl;
-        folder = λ _. disk_same (planned kind.Barrier (plans_of c.args.self.now)) c.result 0 (memory_state c.args.self.now) (memory_state c.new.self.now) c.ensures.made;
-        counts = disk_counts (planned kind.Barrier (plans_of c.args.self.now)) c.result 0 (memory_state c.args.self.now).folder (memory_state c.args.self.now).folder (memory_state c.args.self.now) (memory_state c.new.self.now) c.args.self.now.recorder.disk_count c.ensures.made;
-        output = record { same_telling = refl; same_told = quiet.0; same_faults = quiet.1 };
-      };
-    }
+    let old = memory_state c.args.self.now in
+    let told = append_told (planned kind.Append (plans_of c.args.self.now)) c.result (length_at old.folder c.args.name.now + length c.args.bytes.now) c.args.name.now c.args.bytes.now old (memory_state c.new.self.now) c.args.self.now.recorder.disk_count c.ensures.made in
+    record { folder = λ _. told.0; crash = told.1; disk = told.2 }
 
 pub rename-tells : goal.rename-tells
 rename-tells c =
-    let quiet = disk_says_nothing (planned kind.Rename (plans_of c.args.self.now)) c.result 0 (moved (memory_state c.args.self.now).folder c.args.from.now c.args.to.now) (memory_state c.args.self.now).folder (memory_state c.args.self.now) (memory_state c.new.self.now) c.ensures.made in
-    record {
-      folder = λ _. disk_renames (planned kind.Rename (plans_of c.args.self.now)) c.result 0 (moved (memory_state c.args.self.now).folder c.args.from.now c.args.to.now) (memory_state c.args.self.now) (memory_state c.new.self.now) c.ensures.made;
-      disk = record {
-        telling = refl;
-        counts = disk_counts (planned kind.Rename (plans_of c.args.self.now)) c.result 0 (moved (memory_state c.args.self.now).folder c.args.from.now c.args.to.now) (memory_state c.args.self.now).folder (memory_state c.args.self.now) (memory_state c.new.self.now) c.args.self.now.recorder.disk_count c.ensures.made;
-        output = record { same_telling = refl; same_told = quiet.0; same_faults = quiet.1 };
-      };
-    }
+    let old = memory_state c.args.self.now in
+    let told = names_told (planned kind.Rename (plans_of c.args.self.now)) c.result (moved old.folder c.args.from.now c.args.to.now) (renamed c.args.from.now c.args.to.now old.crash) old (memory_state c.new.self.now) c.args.self.now.recorder.disk_count c.ensures.made in
+    record { folder = λ _. told.0; crash = told.1; disk = told.2 }
 
 pub remove-tells : goal.remove-tells
 remove-tells c =
-    let quiet = disk_says_nothing (planned kind.Remove (plans_of c.args.self.now)) c.result 0 (remove (memory_state c.args.self.now).folder c.args.name.now) (memory_state c.args.self.now).folder (memory_state c.args.self.now) (memory_state c.new.self.now) c.ensures.made in
-    record {
-      folder = λ _. disk_renames (planned kind.Remove (plans_of c.args.self.now)) c.result 0 (remove (memory_state c.args.self.now).folder c.args.name.now) (memory_state c.args.self.now) (memory_state c.new.self.now) c.ensures.made;
-      disk = record {
-        telling = refl;
-        counts = disk_counts (planned kind.Remove (plans_of c.args.self.now)) c.result 0 (remove (memory_state c.args.self.now).folder c.args.name.now) (memory_state c.args.self.now).folder (memory_state c.args.self.now) (memory_state c.new.self.now) c.args.self.now.recorder.disk_count c.ensures.made;
-        output = record { same_telling = refl; same_told = quiet.0; same_faults = quiet.1 };
-      };
-    }
+    let old = memory_state c.args.self.now in
+    let told = names_told (planned kind.Remove (plans_of c.args.self.now)) c.result (remove old.folder c.args.name.now) (removed c.args.name.now old.crash) old (memory_state c.new.self.now) c.args.self.now.recorder.disk_count c.ensures.made in
+    record { folder = λ _. told.0; crash = told.1; disk = told.2 }
+
+pub sync-tells : goal.sync-tells
+sync-tells c =
+    let old = memory_state c.args.self.now in
+    let told = settling_told (planned kind.Sync (plans_of c.args.self.now)) c.result (synced c.args.name.now old.crash) old (memory_state c.new.self.now) c.args.self.now.recorder.disk_count (sync_adds_none old.crash c.args.name.now) c.ensures.made in
+    record { crash = told.0; reads = told.1 }
+
+pub sync_names-tells : goal.sync_names-tells
+sync_names-tells c =
+    let old = memory_state c.args.self.now in
+    let told = settling_told (planned kind.SyncNames (plans_of c.args.self.now)) c.result (names_settled old.crash) old (memory_state c.new.self.now) c.args.self.now.recorder.disk_count (sync_names_adds_none old.crash) c.ensures.made in
+    record { crash = told.0; reads = told.1 }
+
+pub barrier-tells : goal.barrier-tells
+barrier-tells c =
+    let site = c.args.self.now.recorder in
+    let old = memory_state c.args.self.now in
+    let told = settling_told (planned kind.Barrier (plans_of c.args.self.now)) c.result (settled old.folder) old (memory_state c.new.self.now) c.args.self.now.recorder.disk_count
+    (barrier_adds_none old.crash old.folder (newest_after site.store.items site.calls.items _)) c.ensures.made in
+    record { crash = told.0; reads = told.1 }
 
 pub list-tells : goal.list-tells
 list-tells c =
-    let kept = reading_leaves (planned kind.List (plans_of c.args.self.now)) (memory_state c.args.self.now) (memory_state c.new.self.now) c.ensures.state in
-    record {
-      front = c.ensures.front;
-      names = λ _. c.ensures.names;
-      reads = record {
-        telling = refl;
-        folder = λ _. kept.0;
-        counts = list_counts _ (planned kind.List (plans_of c.args.self.now)) c.result (memory_state c.args.self.now) (memory_state c.new.self.now) c.args.self.now.recorder.disk_count c.ensures.fails c.ensures.state;
-        output = record { same_telling = refl; same_told = kept.1; same_faults = kept.2 };
-      };
-    }
+    let old = memory_state c.args.self.now in
+    let fault = due kind.List (plans_of c.args.self.now) old.until_stop in
+    let told = reading_told fault _ old (memory_state c.new.self.now) c.ensures.state (list_counts _ fault c.result old (memory_state c.new.self.now) c.args.self.now.recorder.disk_count c.ensures.fails c.ensures.state) in
+    record { front = c.ensures.front; names = λ _. c.ensures.names; crash = told.0; reads = told.1 }
 
 pub size-tells : goal.size-tells
 size-tells c =
-    let kept = reading_leaves (planned kind.Size (plans_of c.args.self.now)) (memory_state c.args.self.now) (memory_state c.new.self.now) c.ensures.state in
-    record {
-      size = λ _. size_gives _ (planned kind.Size (plans_of c.args.self.now)) c.result c.ensures.size;
-      reads = record {
-        telling = refl;
-        folder = λ _. kept.0;
-        counts = size_counts _ (planned kind.Size (plans_of c.args.self.now)) c.result (memory_state c.args.self.now) (memory_state c.new.self.now) c.args.self.now.recorder.disk_count c.ensures.size c.ensures.state;
-        output = record { same_telling = refl; same_told = kept.1; same_faults = kept.2 };
-      };
-    }
+    let old = memory_state c.args.self.now in
+    let fault = due kind.Size (plans_of c.args.self.now) old.until_stop in
+    let told = reading_told fault _ old (memory_state c.new.self.now) c.ensures.state (size_counts _ fault c.result old (memory_state c.new.self.now) c.args.self.now.recorder.disk_count c.ensures.size c.ensures.state) in
+    record { size = λ _. size_gives _ fault c.result c.ensures.size; crash = told.0; reads = told.1 }
 
 pub read_at-tells : goal.read_at-tells
 read_at-tells c =
-    let kept = reading_leaves (planned kind.ReadAt (plans_of c.args.self.now)) (memory_state c.args.self.now) (memory_state c.new.self.now) c.ensures.state in
-    record {
-      within = c.ensures.within;
-      bytes = λ _. reading_gives _ _ (planned kind.ReadAt (plans_of c.args.self.now)) c.result c.ensures.read;
-      reads = record {
-        telling = refl;
-        folder = λ _. kept.0;
-        counts = reading_counts _ _ (planned kind.ReadAt (plans_of c.args.self.now)) c.result (memory_state c.args.self.now) (memory_state c.new.self.now) c.args.self.now.recorder.disk_count c.ensures.read c.ensures.state;
-        output = record { same_telling = refl; same_told = kept.1; same_faults = kept.2 };
-      };
-    }
+    let old = memory_state c.args.self.now in
+    let fault = due kind.ReadAt (plans_of c.args.self.now) old.until_stop in
+    let told = reading_told fault _ old (memory_state c.new.self.now) c.ensures.state (reading_counts _ _ fault c.result old (memory_state c.new.self.now) c.args.self.now.recorder.disk_count c.ensures.read c.ensures.state) in
+    record { within = c.ensures.within; bytes = λ _. reading_gives _ _ fault c.result c.ensures.read; crash = told.0; reads = told.1 }

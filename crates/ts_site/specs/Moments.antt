@@ -1,0 +1,24 @@
+-- The moments of a site, and what goes on from one to another.
+use Rattle.std.specs.Prelude.{◌≡◌, ◌⊎◌, ℕ, List, ◌++◌, All, Result, MatchResult}
+use Rattle.ts_site.specs.Crash.{CrashState}
+
+-- what a crash at this moment leaves, and the bytes said by then
+pub record Moment : Type 0 where
+  pub crash : CrashState
+  pub told : List ℕ
+
+-- Moments, the latest first, to which came some that are all like that. The earlier ones are as they were.
+abbrev pub GoesOn : (Moment → Type 0) → List Moment → List Moment → Type 0
+GoesOn P old new = (more : List Moment) × (new ≡ more ++ old) × All P more
+
+-- the change came about, or nothing did
+abbrev pub IsChangedOrNot : CrashState → CrashState → CrashState → Type 0
+IsChangedOrNot changed old new = (new ≡ changed) ⊎ (new ≡ old)
+
+-- a call that changes files or names: at Ok the change came about, and after a failure it did or not
+abbrev pub Changes : {E : Type 0} → Result (Unit {0}) E → CrashState → CrashState → CrashState → Type 0
+Changes result changed old new = MatchResult result (λ _. new ≡ changed) (λ _. IsChangedOrNot changed old new)
+
+-- a call that settles: at Ok it did, and after a failure nothing is settled for certain
+abbrev pub Settles : {E : Type 0} → Result (Unit {0}) E → CrashState → CrashState → CrashState → Type 0
+Settles result settled old new = MatchResult result (λ _. new ≡ settled) (λ _. new ≡ old)
