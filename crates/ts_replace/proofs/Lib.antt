@@ -1,3 +1,5 @@
+pub mod CrashLemmas
 pub mod NameLemmas
 pub mod NamedLemmas
 pub mod ReplacedLemmas
+pub mod StageLemmas

@@ -1,3 +1,4 @@
+pub mod CrashSafe
 pub mod Names
 pub mod Replaced
 pub mod ScanFail

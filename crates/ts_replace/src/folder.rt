@@ -4,7 +4,7 @@ ghost use Rattle.std.specs.Ordering.{nat_cmp};
 ghost use Rattle.std.specs.Cmp.Lexicographic.{slice_cmp};
 ghost use Rattle.std.specs.List.Sorted.{IsStrictlyIncreasing, IsStrictlySortedBy};
 ghost use Rattle.ts_site.specs.Faults.{is_err_and};
-ghost use Rattle.ts_site.specs.Outside.{OnlyReads};
+ghost use Rattle.ts_site.specs.Outside.{KeepsCrash, OnlyReads};
 ghost use Rattle.ts_model.specs.LayerText.{layer_text};
 ghost use Rattle.ts_model.specs.Names.{IsLabelName};
 ghost use Rattle.ts_replace.specs.Names.{IsLayerNumber};
@@ -32,6 +32,7 @@ impl Folder {
         ensures rollup_numbers { IfOk result (λ found. All IsLayerNumber found.rollups.items) }
         ensures names { IsTrue (W.outside site.old).tells_folder
             → IfOk result (λ found. AreThoseOf (W.outside site.old).folder found.layers.items found.rollups.items found.labels.items) }
+        ensures crash { KeepsCrash (W.outside site.old) (W.outside site.new) }
         ensures reads { OnlyReads (is_err_and is_scan_fault result) (W.outside site.old) (W.outside site.new) }
     {
         let mut names = Vec::new(alloc);

@@ -6,7 +6,8 @@
 //! - [`read_file`] reads a whole file.
 //!
 //! The contract that the layer above uses: after `replace` the folder is the old one with the new bytes under
-//! the name; after a failure the name holds its old content or the new one. What a crash leaves has no clause.
+//! the name; after a failure the name holds its old content or the new one. A crash at any moment of it leaves the old
+//! folder or the new one, compared but for `new.tmp`, and after Ok the new one.
 #![tactic(auto)]
 
 mod change;

@@ -2,7 +2,7 @@
 ghost use Rattle.std.specs.Prelude.{◌≡◌, [], IsTrue, IfOk, unwrap_or};
 ghost use Rattle.std.specs.FinMap.{get};
 ghost use Rattle.ts_site.specs.Faults.{is_err_and};
-ghost use Rattle.ts_site.specs.Outside.{OnlyReads};
+ghost use Rattle.ts_site.specs.Outside.{KeepsCrash, OnlyReads};
 ghost use Rattle.ts_replace.specs.ScanFail.{is_scan_fault};
 
 use crate::ScanFail;
@@ -13,6 +13,7 @@ use ts_site::{Disk, FileName, Site};
 /// reached, these are the bytes so far.
 pub fn read_file<W: Site>(alloc: Global, site: &mut W, name: &FileName) -> Result<Vec<u8>, ScanFail>
     ensures bytes { IsTrue (W.outside site.old).tells_folder → IfOk result (λ bytes. bytes.items ≡ unwrap_or (get (W.outside site.old).folder name.now) []) }
+    ensures crash { KeepsCrash (W.outside site.old) (W.outside site.new) }
     ensures reads { OnlyReads (is_err_and is_scan_fault result) (W.outside site.old) (W.outside site.new) }
 {
     let Some(size) = site.size(name)? else {

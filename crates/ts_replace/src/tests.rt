@@ -2,9 +2,10 @@ ghost use Rattle.std.specs.Prelude.{◌≡◌, [], OnOk};
 ghost use Rattle.ts_site.specs.MemorySite.{memory_calls};
 
 use super::*;
+use std::alloc::Global;
 use std::test::Fail;
 use ts_model::LabelName;
-use ts_site::{FileName, MemorySite};
+use ts_site::{CrashChoice, FileName, MemorySite};
 
 #[test]
 fn a_file_is_changed_whole(rt: HostRuntime) -> Result<(), Fail> {
@@ -68,5 +69,36 @@ fn a_folder_is_scanned(rt: HostRuntime) -> Result<(), Fail> {
     assert_eq!(rt; folder.labels[0].bytes(), b"a".as_slice());
     assert_eq!(rt; folder.labels[1].bytes(), b"a-b".as_slice());
     assert_eq!(rt; folder.labels[2].bytes(), b"b".as_slice());
+    Ok(())
+}
+
+// The first byte of a file, after a change of the file that a stop cut off and a crash.
+fn left_after(alloc: Global, calls: u64, choice: CrashChoice) -> Result<u8, Fail> {
+    let mut site = MemorySite::new(alloc, 20, 100)?;
+    let name = FileName::of(b"main.label").ok_or("name")?;
+    site.put_file(&name, b"old")?;
+    site.stop_after(calls);
+    let _ = replace(&mut site, &name, b"new bytes");
+    let left = site.crashed(alloc, choice)?;
+    let file = left.file(&name).ok_or("file")?;
+    Ok(*file.first().ok_or("byte")?)
+}
+
+#[test]
+fn a_crash_leaves_the_old_file_or_the_new_one(rt: HostRuntime) -> Result<(), Fail> {
+    let alloc = rt.alloc();
+    // The five calls are create, append, sync, rename and sync_names.
+    for (calls, oldest, newest) in [
+        (0, b'o', b'o'),
+        (1, b'o', b'o'),
+        (2, b'o', b'o'),
+        (3, b'o', b'o'),
+        (4, b'o', b'n'),
+        (5, b'n', b'n'),
+    ] {
+        assert_eq!(rt; left_after(alloc, calls, CrashChoice::Oldest)?, oldest);
+        assert_eq!(rt; left_after(alloc, calls, CrashChoice::Newest)?, newest);
+        assert_eq!(rt; left_after(alloc, calls, CrashChoice::Torn)?, newest);
+    }
     Ok(())
 }
