@@ -1,0 +1,4 @@
+pub mod LabelFile
+pub mod Labels
+pub mod Moves
+pub mod Place
