@@ -10,7 +10,7 @@ use Rattle.ts_script.specs.Body.{AreReadAs, SpellBody, IsFirstFault, IsFaultOf}
 use Rattle.ts_script.specs.declared.body.BodyFault.{BodyFault}
 use Rattle.ts_script.specs.declared.body.BodyFault.TheVariants.{Bad, TooLong}
 
-abbrev seen_as : List ℕ → Bool → LineView
+abbrev pub seen_as : List ℕ → Bool → LineView
 seen_as bytes long = record { bytes = bytes; too_long = long }
 
 -- a line that is shown whole is the line

@@ -94,7 +94,7 @@ view_of-some true after_return text line lines e =
 view_of-some false after_return text line lines e =
     let split = map-first (lines_after after_return text) line lines e in (split.0, split.1.2)
 
-next_of-some : (cur new : LineCutter) (bytes : List ℕ) (line : LineView) → IsNext cur new bytes line → (bytes : List ℕ) × (line_view bytes ≡ line)
+pub next_of-some : (cur new : LineCutter) (bytes : List ℕ) (line : LineView) → IsNext cur new bytes line → (bytes : List ℕ) × (line_view bytes ≡ line)
 next_of-some cur new bytes line (inl next) = view_of-some cur.is_overlong cur.after_return _ line _ (next [])
 next_of-some cur new bytes line (inr last) = view_of-some cur.is_overlong cur.after_return _ line _ last.1
 

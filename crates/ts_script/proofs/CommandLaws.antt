@@ -1,11 +1,14 @@
 -- Words and the lines behind them are one command, or none.
-use Rattle.std.proofs.Common.{◌≡◌, ℕ, List, All, sym, ◌∙◌, ap, subst, refl}
-use Rattle.std.specs.Prelude.{Option, Some, None, Result, Ok, Err}
+use Rattle.std.proofs.Common.{◌≡◌, inl, inr, ℕ, List, All, sym, ◌∙◌, ap, subst, refl}
+use Rattle.std.specs.Prelude.{Bool, true, false, Option, Some, None, Result, Ok, Err}
 use Rattle.ts_model.specs.declared.signed.SignedTriple.{SignedTriple}
 use Rattle.ts_model.specs.TextTriple.{IsTriple}
 use Rattle.ts_script.specs.Body.{IsBodyRead}
-use Rattle.ts_script.specs.Heads.{Name, base, commit, list, has, added, removed, layers, squash, IsHeadOf}
+use Rattle.ts_script.specs.Heads.{Name, base, commit, list, has, added, removed, layers, squash, labels, label_new, label_get, label_set, count, open_cursor, fetch, close, IsHeadOf}
 use Rattle.ts_script.specs.Commands.{completed, IsCompleted, IsCommand, IsNoCommand}
+use Rattle.ts_script.specs.Script.{closed, IsGiven, IsNextCommand, LineIs}
+use Rattle.ts_script.specs.declared.script_line.ScriptLine.{ScriptLine}
+use Rattle.ts_script.specs.declared.script_line.ScriptLine.TheVariants.{PassedOver, Overlong, NoCommand, Heads}
 use Rattle.ts_script.specs.declared.body.BodyFault.{BodyFault}
 use Rattle.ts_script.specs.declared.body.BodyFault.TheVariants.{Bad, TooLong}
 use Rattle.ts_script.specs.declared.command.Command.{Command}
@@ -47,6 +50,16 @@ body_in (command.Has at triple) = None
 body_in (command.Added layer) = None
 body_in (command.Removed layer) = None
 body_in command.Layers = None
+body_in command.Labels = None
+body_in (command.Count at pattern) = None
+body_in (command.OpenCursor name at pattern) = None
+body_in (command.Fetch name n) = None
+body_in (command.CloseCursor name) = None
+body_in (command.LabelNew name) = None
+body_in (command.LabelGet name) = None
+body_in (command.LabelSet name version to) = None
+body_in (command.BadCommand line) = None
+body_in (command.Unfinished line) = None
 body_in (command.Squash at) = None
 
 body_in_whole : Head → Option (List SignedTriple)
@@ -58,12 +71,21 @@ no_body : (name : Name) (behind : List (List ℕ)) (whole : Command) → IsHeadO
 unfolding body_in body_in_whole
 no_body base behind whole says = ap body_in_whole says.1
 no_body commit behind whole says = ap body_in_whole says.4
-no_body list behind whole says = ap body_in_whole says.4
+no_body list behind whole (inl says) = ap body_in_whole says.4
+no_body list behind whole (inr says) = ap body_in_whole says.9
 no_body has behind whole says = ap body_in_whole says.9
 no_body added behind whole says = ap body_in_whole says.4
 no_body removed behind whole says = ap body_in_whole says.4
 no_body layers behind whole says = ap body_in_whole says.1
 no_body squash behind whole says = ap body_in_whole says.4
+no_body labels behind whole says = ap body_in_whole says.1
+no_body label_new behind whole says = ap body_in_whole says.3
+no_body label_get behind whole says = ap body_in_whole says.3
+no_body label_set behind whole says = ap body_in_whole says.9
+no_body count behind whole says = ap body_in_whole says.9
+no_body open_cursor behind whole says = ap body_in_whole says.4.9
+no_body fetch behind whole says = ap body_in_whole says.6
+no_body close behind whole says = ap body_in_whole says.3
 
 body_in_completed : (opening : Opening) (body : List SignedTriple) → body_in (completed opening (Ok body)) ≡ Some body
 unfolding body_in
@@ -92,3 +114,32 @@ body_of_triples words before lines body is = triples_in words before lines (comm
 pub commit_of_triples : (words : List (List ℕ)) (before : ℕ) (lines : List (List ℕ)) (at : Ref) (body : List SignedTriple) → IsCommand words before lines (command.Commit at body) → All (λ (line : SignedTriple). IsTriple line.triple) body
 unfolding body_in
 commit_of_triples words before lines at body is = triples_in words before lines (command.Commit at body) body is refl
+
+-- ---- bodies of a script
+
+body_in_closed : (before number : ℕ) (lines : List (List ℕ)) (opening : Opening) (is_closed : Bool) (read : Result (List SignedTriple) BodyFault) (body : List SignedTriple)
+    → IsBodyRead before lines read → body_in (closed opening number is_closed read) ≡ Some body → IsBodyRead before lines (Ok body)
+unfolding body_in
+body_in_closed before number lines opening true read body is same = body_read before lines opening body read is same
+body_in_closed before number lines opening false (Ok read) body is same = absurd (cc)
+body_in_closed before number lines opening false (Err fault) body is same = body_read before lines opening body (Err fault) is same
+
+body_in_given : (kind : ScriptLine) (line : List ℕ) (number : ℕ) (behind rest : List (List ℕ)) (asked : Command) (body : List SignedTriple)
+    → LineIs line kind → IsGiven kind number behind rest asked → body_in asked ≡ Some body → All (λ (signed : SignedTriple). IsTriple signed.triple) body
+unfolding body_in
+body_in_given PassedOver line number behind rest asked body is given has_it = absurd given
+body_in_given Overlong line number behind rest asked body is given has_it = let none : None ≡ Some body = sym (ap body_in given.1) ∙ has_it in absurd (cc)
+body_in_given NoCommand line number behind rest asked body is given has_it = let none : None ≡ Some body = sym (ap body_in given.1) ∙ has_it in absurd (cc)
+body_in_given (Heads (Whole whole)) line number behind rest asked body is given has_it =
+    let none : None ≡ Some body = sym (no_body is.1.name is.1.behind whole is.1.says) ∙ sym (ap body_in given.1) ∙ has_it in absurd (cc)
+body_in_given (Heads (Awaits opening)) line number behind rest asked body is (read, is_closed, of, says) has_it =
+    spelled_triples of.body body (body_in_closed number number of.body opening is_closed read body of.spells (sym (ap body_in says) ∙ has_it))
+
+pub body_of_script : (before : ℕ) (lines taken rest : List (List ℕ)) (body : List SignedTriple) → IsNextCommand before lines (command.Base body) taken rest → All (λ (signed : SignedTriple). IsTriple signed.triple) body
+unfolding body_in
+body_of_script before lines taken rest body is = body_in_given is.kind is.line _ is.behind rest (command.Base body) body is.is is.given refl
+
+pub commit_of_script : (before : ℕ) (lines taken rest : List (List ℕ)) (at : Ref) (body : List SignedTriple) → IsNextCommand before lines (command.Commit at body) taken rest
+    → All (λ (signed : SignedTriple). IsTriple signed.triple) body
+unfolding body_in
+commit_of_script before lines taken rest at body is = body_in_given is.kind is.line _ is.behind rest (command.Commit at body) body is.is is.given refl

@@ -1,5 +1,5 @@
 -- What a cutter keeps between two lines, and what a call gives.
-use Rattle.std.specs.Prelude.{◌⊎◌, Option, None, Some, Result, Ok, Err, IfOk, IfErr, ◌≡◌, ℕ, ◌+◌, ◌-◌, ◌<◌, ◌≤◌, Bool, true, false, List, [], ◌∷◌, ◌++◌, length, slice_range}
+use Rattle.std.specs.Prelude.{◌⊎◌, Option, None, Some, Result, Ok, Err, IfOk, IfErr, ◌≡◌, ℕ, ◌+◌, ◌-◌, ◌<◌, ◌≤◌, Bool, true, false, List, [], ◌∷◌, ◌++◌, length, drop, slice_range}
 use Rattle.ts_script.specs.Lines.{HasNoEnd, LineView, lines_behind, feed_of, first_length}
 use Rattle.ts_nt.specs.Limits.{line_limit}
 use Rattle.ts_script.specs.declared.cutter.LineCutter.{LineCutter}
@@ -61,6 +61,10 @@ pub record HasNoWholeLine (c : LineCutter) : Type 0 where
   pub small : c.end - c.start ≤ line_limit
   pub scanned : c.scanned ≡ c.end
   pub settled : c.after_return ≡ true → c.start ≡ c.end
+
+-- a whole line is buffered: an end stands behind a line feed that belongs to the end before
+abbrev pub HasWholeLine : LineCutter → Type 0
+HasWholeLine c = HasNoEnd (drop (feed_of c.after_return (buffered c)) (buffered c)) → ⊥
 
 -- the line in the buffer at a span
 abbrev pub view_at : LineCutter → Span → LineView

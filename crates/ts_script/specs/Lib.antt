@@ -2,7 +2,11 @@ pub mod Body
 pub mod Commands
 pub mod Cutting
 pub mod Heads
+pub mod LineWords
 pub mod Lines
+pub mod Next
 pub mod Replies
+pub mod Script
+pub mod ScriptBody
 pub mod StopFaults
 pub mod Words

@@ -24,7 +24,7 @@ pub(crate) enum BodyFault {
 
 /// The lines of a body so far.
 #[derive(Drop)]
-struct BodySoFar {
+pub(crate) struct BodySoFar {
     signed: Vec<SignedTriple>,
     fault: Option<BodyFault>,
 }
@@ -34,7 +34,7 @@ impl BodySoFar {
     ghost use Rattle.ts_script.specs.Cutting.{view_of};
 
     /// No line so far.
-    fn new(alloc: Global) -> BodySoFar
+    pub(crate) fn new(alloc: Global) -> BodySoFar
         ensures { (before : ℕ) → IsFaultOf before [] result.signed.items result.fault }
     {
         BodySoFar {
@@ -44,7 +44,7 @@ impl BodySoFar {
     }
 
     /// Reads one more line. After the first line at fault each line is passed over.
-    fn add(&mut self, alloc: Global, line: &Line<'_>) -> Result<(), AllocError>
+    pub(crate) fn add(&mut self, alloc: Global, line: &Line<'_>) -> Result<(), AllocError>
         ensures { (before : ℕ) (lines : List (List ℕ)) (bytes : List ℕ) → line_view bytes ≡ view_of line.now → line.now.number ≡ before + length lines + 1
             → IsFaultOf before lines self.old.signed.items self.old.fault
             → OnOk result (IsFaultOf before (lines ++ bytes ∷ []) self.new.signed.items self.new.fault) }
@@ -68,7 +68,7 @@ impl BodySoFar {
     }
 
     /// What the lines are read as.
-    fn into_read(self) -> Result<Body, BodyFault>
+    pub(crate) fn into_read(self) -> Result<Body, BodyFault>
         ensures { (before : ℕ) (lines : List (List ℕ)) → IsFaultOf before lines self.signed.items self.fault → IsBodyRead before lines result }
     {
         match self.fault {

@@ -170,7 +170,7 @@ fn to_front(buffer: &mut [u8], start: usize, end: usize)
 }
 
 impl LineCutter {
-    ghost use Rattle.ts_script.specs.Cutting.{progress, buffered, lines_to_come, MeansSame, HasNoWholeLine, GivesWhole, GivesLine, HasEnded, Takes, NextIs, Fills, IsFresh, view_at, view_of, next_offset};
+    ghost use Rattle.ts_script.specs.Cutting.{progress, buffered, lines_to_come, MeansSame, HasNoWholeLine, HasWholeLine, GivesWhole, GivesLine, HasEnded, Takes, NextIs, Fills, IsFresh, view_at, view_of, next_offset};
     ghost use Rattle.ts_script.specs.contracts.cutter.LineCutter.{the_row};
 
     /// A cutter that takes at most `limit` bytes. It takes all the memory that it will need.
@@ -197,6 +197,7 @@ impl LineCutter {
     fn skip_line_feed(&mut self)
         ensures keeps { MeansSame self.old self.new }
         ensures settled { self.new.after_return ≡ true → self.new.start ≡ self.new.end }
+        ensures skips { buffered self.new ≡ drop (feed_of self.old.after_return (buffered self.old)) (buffered self.old) }
     {
         if self.after_return && self.start < self.end {
             self.after_return = false;
@@ -251,6 +252,7 @@ impl LineCutter {
         ensures in_buffer { IfSome result (λ span. (span.from ≤ span.to) × (span.to ≤ buffer_size)) }
         ensures none { IfNone result (MeansSame self.old self.new) }
         ensures no_line { IfNone result (HasNoWholeLine self.new) }
+        ensures waits { IfNone result (HasWholeLine self.old → ⊥) }
     {
         self.skip_line_feed();
         match find_end(&self.buffer[self.scanned..self.end]) {
@@ -344,6 +346,7 @@ impl LineCutter {
             × Tells (S.tells input.old) (S.tells input.new) (S.left input.old ≡ bytes ++ S.left input.new) }
         ensures ended { self.old.has_ended ≡ false → self.new.has_ended ≡ true → IsTrue (S.tells input.old) → S.left input.new ≡ [] }
         ensures closed { self.old.has_ended ≡ true → input.new ≡ input.old }
+        ensures lazy { HasWholeLine self.old → input.new ≡ input.old }
         ensures counts { CountsFault (is_err_and is_input_fault result) (S.faults input.old) (S.faults input.new) }
         ensures in_buffer { IfOk result (λ line. IfSome line (λ span. (span.from ≤ span.to) × (span.to ≤ buffer_size))) }
     {
@@ -384,6 +387,7 @@ impl LineCutter {
             × Tells (S.tells input.old) (S.tells input.new) (S.left input.old ≡ bytes ++ S.left input.new)
             × ((progress self.old).has_ended ≡ false → (progress new).has_ended ≡ true → IsTrue (S.tells input.old) → S.left input.new ≡ []))) }
         ensures closed { (progress self.old).has_ended ≡ true → input.new ≡ input.old }
+        ensures lazy { HasWholeLine self.old → input.new ≡ input.old }
         ensures number { IfOk result (λ line. IfSome line (λ line. line.number ≡ (progress self.old).lines + 1)) }
         ensures counts { CountsFault (is_err_and is_input_fault result) (S.faults input.old) (S.faults input.new) }
     {

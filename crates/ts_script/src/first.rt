@@ -9,13 +9,10 @@ ghost use Rattle.ts_script.specs.Cutting.{lines_to_come, progress, IsAtLimit, To
 ghost use Rattle.ts_script.specs.StopFaults.{is_script_fault};
 
 use crate::body::read_body;
-use crate::head::{Head, head_of};
+use crate::head::{Head, MOST_WORDS, head_of};
 use crate::{Command, LineCutter, ScriptStop};
 use std::alloc::{AllocError, Global};
 use ts_site::Source;
-
-/// The most words that a command has.
-const MOST_WORDS: usize = 5;
 
 /// The command of these words, with the rest of the input as its body where it has one. None exactly where the
 /// words are no command. Only `base` and `commit` read the input, to its end; other words touch neither the input nor
@@ -66,6 +63,7 @@ fn head_of_words(alloc: Global, words: &[String]) -> Result<Option<Head>, AllocE
         text_at(words, 2),
         text_at(words, 3),
         text_at(words, 4),
+        text_at(words, 5),
     ];
     head_of(alloc, &texts[..words.len()])
 }

@@ -1,10 +1,10 @@
-use Rattle.std.proofs.Common.{◌≡◌, ℕ, Bool, true, false, List, [], ◌++◌, sym, ◌∙◌}
+use Rattle.std.proofs.Common.{◌≡◌, ℕ, Bool, true, false, List, [], ◌++◌, sym, ◌∙◌, subst}
 use Rattle.std.specs.Prelude.{Option, Some, None, Ok, IfSome, IfNone}
 use Rattle.ts_script.specs.declared.cutter.LineCutter.{LineCutter}
 use Rattle.ts_script.specs.declared.cutter.Span.{Span}
 use Rattle.ts_script.specs.declared.cutter.InputStop.TheVariants.{Fault, Limit}
 use Rattle.ts_script.proofs.CuttingLemmas.{takes-keeps, takes-takes, takes-whole, takes-last, takes-none, left-left}
-use Rattle.ts_script.specs.Cutting.{view_at, Takes, GivesLine, HasEnded, NextIs}
+use Rattle.ts_script.specs.Cutting.{view_at, HasWholeLine, Takes, GivesLine, HasEnded, NextIs}
 use Rattle.ts_script.proofs.cutter.LineCutter.advance.Goals as goal
 
 fault_is_not_limit : Fault ≡ Limit → ⊥
@@ -31,6 +31,7 @@ loop-span-preserved g c =
         left = λ told. left-left _ so_far.0 more.0 _ _ (so_far.1.left told) (more.2.1 (rw so_far.1.tells told));
         ended = λ _ is told. c.in_default-fill.ensures.ended is (rw so_far.1.tells told);
         closed = λ is. absurd (apart c.loop-span.self.has_ended c.whole_line.new.self.has_ended (so_far.1.takes.ended is) c.in_default.ensures.none.has_ended c.if-self.false);
+        lazy = λ has. absurd (c.in_default.ensures.waits (subst HasWholeLine (sym (so_far.1.lazy has).0) has));
         faults = c.in_default-fill.ensures.counts ∙ so_far.1.faults;
       },
     )
@@ -71,3 +72,6 @@ returns-then-self-clause-next g c =
 
 pub returns-in-Err-clause-closed : goal.returns-in-Err-clause-closed
 returns-in-Err-clause-closed g c = λ is. absurd (apart c.loop-span.self.has_ended c.whole_line.new.self.has_ended (c.loop-span.invariant.1.takes.ended is) c.in_default.ensures.none.has_ended c.if-self.false)
+
+pub returns-in-Err-clause-lazy : goal.returns-in-Err-clause-lazy
+returns-in-Err-clause-lazy g c = λ has. absurd (c.in_default.ensures.waits (subst HasWholeLine (sym (c.loop-span.invariant.1.lazy has).0) has))

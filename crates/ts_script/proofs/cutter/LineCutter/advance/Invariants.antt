@@ -1,5 +1,5 @@
 use Rattle.std.proofs.Common.{◌≡◌, ℕ, ◌+◌, ◌-◌, true, false, if◌then◌else◌, List, [], ◌++◌, IsTrue}
-use Rattle.ts_script.specs.Cutting.{Takes}
+use Rattle.ts_script.specs.Cutting.{HasWholeLine, Takes}
 use Rattle.ts_script.proofs.cutter.LineCutter.advance.Given as goal
 
 -- These bytes were taken so far, and no fault came.
@@ -11,6 +11,7 @@ invariant-loop-span g l =
       left : IsTrue (g.S.Source.tells l.initial.input) → g.S.Source.left l.initial.input ≡ bytes ++ g.S.Source.left l.input;
       ended : l.initial.self.has_ended ≡ false → l.self.has_ended ≡ true → IsTrue (g.S.Source.tells l.initial.input) → g.S.Source.left l.input ≡ [];
       closed : l.initial.self.has_ended ≡ true → l.input ≡ l.initial.input;
+      lazy : HasWholeLine l.initial.self → (l.self ≡ l.initial.self) × (l.input ≡ l.initial.input);
       faults : g.S.Source.faults l.input ≡ g.S.Source.faults l.initial.input;
     }
 

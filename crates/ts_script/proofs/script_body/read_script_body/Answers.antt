@@ -1,0 +1,157 @@
+use Rattle.std.proofs.Common.{◌≡◌, ◌++◌, ◌+◌, true, [], IsTrue, refl, ◌∙◌, arith}
+use Rattle.ts_script.specs.Cutting.{view_of, GivesLine, HasEnded, HasSeenAll, IsStopped}
+use Rattle.ts_script.proofs.CuttingLemmas.{next-line, next-none, left-left, took-took, ended-left}
+use Rattle.ts_script.proofs.BodyUpTo.{body-more, body-closed, body-open, some-more, some-closed, some-open, ends-by, goes_on-by}
+use Rattle.ts_script.proofs.script_body.read_script_body.Goals as goal
+
+pub loop-body-init : goal.loop-body-init
+loop-body-init g c = record {
+  tells = refl;
+  faults = refl;
+  ended = λ told seen. seen;
+  lines = λ told seen lines is. record { done = []; rest = lines; parts = refl; to_come = is; number = omega arith; goes_on = tt; read = c.new-body.ensures c.args.cutter.now.number };
+  some = record { done = []; count = omega arith; goes_on = tt; read = c.new-body.ensures c.args.cutter.now.number };
+  offset = omega arith;
+  taken = ([], record { taken = omega arith; limit = refl }, λ told. refl);
+}
+
+pub loop-body-preserved : goal.loop-body-preserved
+loop-body-preserved g c =
+    let was = c.loop-body.invariant in
+    let cur = c.loop-body.cutter in
+    let after = c.next.follows.lender-at-none in
+    let follows = c.next.follows.holds-at-none in
+    let left = g.S.Source.left c.loop-body.input in
+    let rest = g.S.Source.left c.next.new.input in
+    let gives : GivesLine cur after follows.0 (view_of c.in-Some.line) = rw (c.in_ok-line.was, c.in-Some.is) at follows.1 in
+    let number : c.in-Some.line.number ≡ cur.number + 1 = rw c.in-Some.is at c.in_ok-line.ensures.number in
+    let ended : IsTrue (g.S.Source.tells c.args.input.now) → HasSeenAll c.args.cutter.now (g.S.Source.left c.args.input.now) → after.has_ended ≡ true → rest ≡ [] =
+    λ told seen is. let tells : IsTrue (g.S.Source.tells c.loop-body.input) = rw was.tells told in
+    ended-left cur.has_ended after.has_ended left follows.0 rest (was.ended told seen) (λ opened ends. follows.3 opened ends tells) (follows.2.1 tells) is in
+    record {
+      tells = follows.2.0 ∙ was.tells;
+      faults = c.in_ok-line.ensures.counts ∙ was.faults;
+      ended = ended;
+      lines = λ told seen. body-more c.args.cutter.now cur after (g.S.Source.left c.args.input.now) left rest
+          c.loop-body.body.signed.items c.add.new.self.signed.items c.loop-body.body.fault c.add.new.self.fault c.in-Some.line
+          (was.lines told seen)
+          (next-line cur after follows.0 left rest (view_of c.in-Some.line) gives (follows.2.1 (rw was.tells told)) (ended told seen))
+          gives.number number (goes_on-by (view_of c.in-Some.line) c.ends_body.result c.ends_body.ensures c.if-ends_body.false) c.in_ok-add.ensures;
+      some = some-more c.args.cutter.now.number cur after follows.0
+          c.loop-body.body.signed.items c.add.new.self.signed.items c.loop-body.body.fault c.add.new.self.fault c.in-Some.line
+          was.some gives number (goes_on-by (view_of c.in-Some.line) c.ends_body.result c.ends_body.ensures c.if-ends_body.false) c.in_ok-add.ensures;
+      offset = omega (arith, was.offset, gives.offset);
+      taken = (
+        was.taken.0 ++ follows.0,
+        took-took c.args.cutter.now cur after was.taken.0 follows.0 was.taken.1 gives.taken gives.limit,
+        λ told. left-left (g.S.Source.left c.args.input.now) was.taken.0 follows.0 left rest (was.taken.2 told) (follows.2.1 (rw was.tells told)),
+      );
+    }
+
+pub returns-then-ends_body-clause-body : goal.returns-then-ends_body-clause-body
+returns-then-ends_body-clause-body g c = λ told seen.
+    let was = c.loop-body.invariant in
+    let cur = c.loop-body.cutter in
+    let after = c.next.follows.lender-at-none in
+    let follows = c.next.follows.holds-at-none in
+    let left = g.S.Source.left c.loop-body.input in
+    let rest = g.S.Source.left c.next.new.input in
+    let gives : GivesLine cur after follows.0 (view_of c.in-Some.line) = rw (c.in_ok-line.was, c.in-Some.is) at follows.1 in
+    let tells : IsTrue (g.S.Source.tells c.loop-body.input) = rw was.tells told in
+    let ended : HasSeenAll after rest =
+    λ is. ended-left cur.has_ended after.has_ended left follows.0 rest (was.ended told seen) (λ opened ends. follows.3 opened ends tells) (follows.2.1 tells) is in
+    body-closed c.args.cutter.now cur after (g.S.Source.left c.args.input.now) left rest c.loop-body.body.signed.items c.loop-body.body.fault c.into_read.result (view_of c.in-Some.line)
+    (was.lines told seen)
+    (next-line cur after follows.0 left rest (view_of c.in-Some.line) gives (follows.2.1 tells) ended)
+    gives.number (ends-by (view_of c.in-Some.line) c.ends_body.result c.ends_body.ensures c.if-ends_body.true) ended c.into_read.ensures
+
+pub returns-then-ends_body-clause-some : goal.returns-then-ends_body-clause-some
+returns-then-ends_body-clause-some g c =
+    let cur = c.loop-body.cutter in
+    let after = c.next.follows.lender-at-none in
+    let follows = c.next.follows.holds-at-none in
+    let gives : GivesLine cur after follows.0 (view_of c.in-Some.line) = rw (c.in_ok-line.was, c.in-Some.is) at follows.1 in
+    some-closed c.args.cutter.now cur after follows.0 c.loop-body.body.signed.items c.loop-body.body.fault c.into_read.result (view_of c.in-Some.line)
+    c.loop-body.invariant.some gives (ends-by (view_of c.in-Some.line) c.ends_body.result c.ends_body.ensures c.if-ends_body.true) c.into_read.ensures
+
+pub returns-then-ends_body-clause-taken : goal.returns-then-ends_body-clause-taken
+returns-then-ends_body-clause-taken g c =
+    let was = c.loop-body.invariant in
+    let cur = c.loop-body.cutter in
+    let after = c.next.follows.lender-at-none in
+    let follows = c.next.follows.holds-at-none in
+    let gives : GivesLine cur after follows.0 (view_of c.in-Some.line) = rw (c.in_ok-line.was, c.in-Some.is) at follows.1 in (
+      follows.2.0 ∙ was.tells,
+      λ told. (
+        was.taken.0 ++ follows.0,
+        took-took c.args.cutter.now cur after was.taken.0 follows.0 was.taken.1 gives.taken gives.limit,
+        left-left (g.S.Source.left c.args.input.now) was.taken.0 follows.0 (g.S.Source.left c.loop-body.input) (g.S.Source.left c.next.new.input) (was.taken.2 told) (follows.2.1 (rw was.tells told)),
+      ),
+    )
+
+pub returns-clause-body : goal.returns-clause-body
+returns-clause-body g c = λ told seen.
+    let was = c.loop-body.invariant in
+    let cur = c.loop-body.cutter in
+    let after = c.next.follows.lender-at-none in
+    let follows = c.next.follows.holds-at-none in
+    let left = g.S.Source.left c.loop-body.input in
+    let rest = g.S.Source.left c.next.new.input in
+    let tells : IsTrue (g.S.Source.tells c.loop-body.input) = rw was.tells told in
+    let ends : HasEnded cur after follows.0 = rw (c.in_ok-line.was, c.in_default.is) at follows.1 in
+    let none : rest ≡ [] = ended-left cur.has_ended after.has_ended left follows.0 rest (was.ended told seen) (λ opened ends. follows.3 opened ends tells) (follows.2.1 tells) ends.ended in
+    body-open c.args.cutter.now cur after (g.S.Source.left c.args.input.now) left rest c.loop-body.body.signed.items c.loop-body.body.fault c.into_read-2.result
+    (was.lines told seen) (next-none cur after follows.0 left rest ends (follows.2.1 tells) none) ends.after ends.number none c.into_read-2.ensures
+
+pub returns-clause-some : goal.returns-clause-some
+returns-clause-some g c =
+    let cur = c.loop-body.cutter in
+    let after = c.next.follows.lender-at-none in
+    let follows = c.next.follows.holds-at-none in
+    let ends : HasEnded cur after follows.0 = rw (c.in_ok-line.was, c.in_default.is) at follows.1 in
+    some-open c.args.cutter.now cur after c.loop-body.body.signed.items c.loop-body.body.fault c.into_read-2.result c.loop-body.invariant.some ends.number c.into_read-2.ensures
+
+pub returns-clause-taken : goal.returns-clause-taken
+returns-clause-taken g c =
+    let was = c.loop-body.invariant in
+    let cur = c.loop-body.cutter in
+    let after = c.next.follows.lender-at-none in
+    let follows = c.next.follows.holds-at-none in
+    let ends : HasEnded cur after follows.0 = rw (c.in_ok-line.was, c.in_default.is) at follows.1 in (
+      follows.2.0 ∙ was.tells,
+      λ told. (
+        was.taken.0 ++ follows.0,
+        took-took c.args.cutter.now cur after was.taken.0 follows.0 was.taken.1 ends.taken ends.limit,
+        left-left (g.S.Source.left c.args.input.now) was.taken.0 follows.0 (g.S.Source.left c.loop-body.input) (g.S.Source.left c.next.new.input) (was.taken.2 told) (follows.2.1 (rw was.tells told)),
+      ),
+    )
+
+pub returns-in_err-line-clause-taken : goal.returns-in_err-line-clause-taken
+returns-in_err-line-clause-taken g c =
+    let was = c.loop-body.invariant in
+    let cur = c.loop-body.cutter in
+    let after = c.next.follows.lender-at-none in
+    let follows = c.next.follows.holds-at-none in
+    let stops : IsStopped cur after follows.0 c.in_err-line.field-0.0 = rw c.in_err-line.was at follows.1 in (
+      follows.2.0 ∙ was.tells,
+      λ told. (
+        was.taken.0 ++ follows.0,
+        took-took c.args.cutter.now cur after was.taken.0 follows.0 was.taken.1 stops.takes.taken stops.takes.limit,
+        left-left (g.S.Source.left c.args.input.now) was.taken.0 follows.0 (g.S.Source.left c.loop-body.input) (g.S.Source.left c.next.new.input) (was.taken.2 told) (follows.2.1 (rw was.tells told)),
+      ),
+    )
+
+pub returns-in_err-add-clause-taken : goal.returns-in_err-add-clause-taken
+returns-in_err-add-clause-taken g c =
+    let was = c.loop-body.invariant in
+    let cur = c.loop-body.cutter in
+    let after = c.next.follows.lender-at-none in
+    let follows = c.next.follows.holds-at-none in
+    let gives : GivesLine cur after follows.0 (view_of c.in-Some.line) = rw (c.in_ok-line.was, c.in-Some.is) at follows.1 in (
+      follows.2.0 ∙ was.tells,
+      λ told. (
+        was.taken.0 ++ follows.0,
+        took-took c.args.cutter.now cur after was.taken.0 follows.0 was.taken.1 gives.taken gives.limit,
+        left-left (g.S.Source.left c.args.input.now) was.taken.0 follows.0 (g.S.Source.left c.loop-body.input) (g.S.Source.left c.next.new.input) (was.taken.2 told) (follows.2.1 (rw was.tells told)),
+      ),
+    )
