@@ -28,9 +28,23 @@ pub fn content_of(
     requires stands { IsTrue (contains_key (history_of layers.now) number) }
     ensures { IfOk result (λ triples. triples.items ≡ members (content_at (history_of layers.now) number)) }
 {
+    let rising = rising_of(alloc, layers, number)?;
+    copies(alloc, rising.as_slice())
+}
+
+/// The triples of a layer, as [`content_of`] copies them.
+pub fn rising_of<'a>(
+    alloc: Global,
+    layers: &'a [PlainLayer],
+    number: u32,
+) -> Result<Vec<&'a Triple>, AllocError>
+    requires history { AreHistory layers.now }
+    requires stands { IsTrue (contains_key (history_of layers.now) number) }
+    ensures { IfOk result (λ triples.
+        map (λ triple. triple.now) triples.items ≡ members (content_at (history_of layers.now) number)) }
+{
     let chain = chain(alloc, layers, number)?;
-    let content = content(alloc, chain.as_slice())?;
-    copies(alloc, content.as_slice())
+    content(alloc, chain.as_slice())
 }
 
 /// The triples of the last of these layers, rising, where each layer is the parent of the next.

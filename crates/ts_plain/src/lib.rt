@@ -4,8 +4,8 @@
 //! gives the layer of a file, or [`PlainError`]. Layers in rising number of which each keeps to its place over the layers
 //! before it ([`keeps_to_place`]) are a history. Over such layers [`layer_at`] finds a layer, [`holds`] tells whether a
 //! layer has a triple, [`plain_listing`] and [`listing_of`] give its triples in birth order and [`changes_of`] its own
-//! additions or removals, and [`content_of`] gives its triples as they rise. [`net_change`] is what a body changes over a
-//! parent, a [`NetChange`], and [`totals_after`] counts the terms that a new layer then has.
+//! additions or removals, and [`content_of`] and [`rising_of`] give its triples as they rise. [`net_change`] is what a body
+//! changes over a parent, a [`NetChange`], and [`totals_after`] counts the terms that a new layer then has.
 //!
 //! The layer above uses that each of these is what `ts_model` defines of the history that the layers make; that the bytes
 //! that are written are exactly the layer's plain file, and are read just where they are; and that such a file is that of
@@ -13,7 +13,7 @@
 #![tactic(auto)]
 
 pub use chain::layer_at;
-pub use content::content_of;
+pub use content::{content_of, rising_of};
 pub use keeps::keeps_to_place;
 pub use law::one_layer;
 pub use listing::{changes_of, listing_of, plain_listing};
