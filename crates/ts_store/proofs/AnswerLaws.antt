@@ -1,20 +1,22 @@
 -- What a command does that changes nothing.
-use Rattle.std.proofs.Common.{◌≡◌, Bool, true, List, ℕ, Option, Some, None, Result, Ok, Err, IfOk, IfErr, inl, refl, sym, subst, ◌∙◌}
+use Rattle.std.proofs.Common.{◌≡◌, Bool, true, List, ℕ, Result, Ok, Err, IfOk, IfErr, inl, refl, sym, subst, ◌∙◌}
 use Rattle.ts_site.specs.Faults.{CountsFault, is_err_and}
 use Rattle.ts_site.specs.Folder.{Folder}
 use Rattle.ts_site.specs.Outside.{Outside}
 use Rattle.ts_script.specs.Replies.{refusal_text}
-use Rattle.ts_script.specs.declared.command.LayerRef.{LayerRef}
-use Rattle.ts_script.specs.declared.reply.Refusal.TheVariants as refusal
+use Rattle.ts_script.specs.declared.reply.Refusal.{Refusal}
 use Rattle.ts_store.specs.declared.stop.Stop.{Stop}
 use Rattle.ts_store.specs.declared.stop.Stop.TheVariants.{Usage, Damaged, DiskFault, InputFault, OutputFault, InputLimit, Memory}
 use Rattle.ts_store.specs.declared.stop.Kind.{Kind}
+use Rattle.ts_store.specs.Cursors.{Cursors}
 use Rattle.ts_store.specs.Does.{Answers, Does, IsQueryStop}
+use Rattle.ts_store.specs.Fetches.{with_cursors}
 use Rattle.ts_store.specs.FolderSays.{FolderSays}
 use Rattle.ts_store.specs.Leaves.{LeavesFolder, LeavesState}
 use Rattle.ts_store.specs.State.{State}
-use Rattle.ts_store.specs.Step.{Stepped, at_layer, at_number, does, refuses, resolve}
+use Rattle.ts_store.specs.Stepped.{Stepped, at_found, does, refuses}
 use Rattle.ts_store.specs.Stops.{IsStepStop, is_disk_fault, kind_of}
+use Rattle.ts_store.proofs.SafeLaws.{safe_said}
 
 -- ---- the output's failures are query stops
 
@@ -30,19 +32,19 @@ pub not_memory : (result : Result Kind Stop) → IfErr result (λ stop. stop ≡
 not_memory (Ok kind) h e = cc
 not_memory (Err stop) h e = let same : stop ≡ Memory = cc in let other : OutputFault ≡ Memory = sym h ∙ same in cc
 
--- ---- a step that changes nothing
+-- ---- a step that changes no more than the cursors
 
-module _ (state : State) (text : List ℕ) (refused : Bool) (old new : Outside) where
-  abbrev still : Stepped
-  still = record { state = state; told = text; refused = refused }
+module _ (state : State) (cursors : Cursors) (text : List ℕ) (refused : Bool) (after : State) (old new : Outside) where
+  abbrev next : State
+  next = with_cursors state cursors
 
-  answered_kind : (result : Result Kind Stop) → IfOk result (λ kind. kind ≡ kind_of refused) → IfOk result (λ kind. (state ≡ state) × (kind ≡ kind_of refused))
-  answered_kind (Ok kind) h = (refl, h)
-  answered_kind (Err stop) h = tt
+  answered : (result : Result Kind Stop) → IfOk result (λ _. after ≡ next) → IfOk result (λ kind. kind ≡ kind_of refused) → IfOk result (λ kind. (after ≡ next) × (kind ≡ kind_of refused))
+  answered (Ok kind) is h = (is, h)
+  answered (Err stop) is h = tt
 
-  same_folder : (result : Result Kind Stop) → IfErr result IsQueryStop → new.folder ≡ old.folder → LeavesFolder result state state old.folder new.folder
-  same_folder (Ok kind) why e = inl (refl, e)
-  same_folder (Err OutputFault) why e = inl (refl, e)
+  same_folder : (result : Result Kind Stop) → IfErr result IsQueryStop → new.folder ≡ old.folder → LeavesFolder result state next old.folder new.folder
+  same_folder (Ok kind) why e = inl (record { history = refl; labels = refl; folder = e })
+  same_folder (Err OutputFault) why e = inl (record { history = refl; labels = refl; folder = e })
   same_folder (Err Memory) why e = e
   same_folder (Err Usage) why e = absurd why
   same_folder (Err (Damaged name)) why e = absurd why
@@ -50,9 +52,16 @@ module _ (state : State) (text : List ℕ) (refused : Bool) (old new : Outside) 
   same_folder (Err InputFault) why e = absurd why
   same_folder (Err InputLimit) why e = absurd why
 
-  same_state : (result : Result Kind Stop) → IfErr result IsQueryStop → FolderSays new.folder state → LeavesState (FolderSays new.folder) result state state
-  same_state (Ok kind) why says = says
-  same_state (Err OutputFault) why says = says
+  -- the cursors stand in no file
+  says_next : FolderSays new.folder state → FolderSays new.folder next
+  says_next says = record { kept = says.kept; named = says.named; layers = says.layers; rollups = says.rollups; labels = says.labels }
+
+  image_next : (image : Folder) → FolderSays image state → FolderSays image next
+  image_next image says = record { kept = says.kept; named = says.named; layers = says.layers; rollups = says.rollups; labels = says.labels }
+
+  same_state : (result : Result Kind Stop) → IfErr result IsQueryStop → FolderSays new.folder state → LeavesState (FolderSays new.folder) result state next
+  same_state (Ok kind) why says = says_next says
+  same_state (Err OutputFault) why says = says_next says
   same_state (Err Memory) why says = says
   same_state (Err Usage) why says = absurd why
   same_state (Err (Damaged name)) why says = absurd why
@@ -80,23 +89,36 @@ module _ (state : State) (text : List ℕ) (refused : Bool) (old new : Outside) 
   no_disk_fault (Err InputFault) why e = absurd why
   no_disk_fault (Err InputLimit) why e = absurd why
 
-  answers_do : (result : Result Kind Stop) → IfErr result IsQueryStop → Answers text refused result old new → Does state still result state old new
-  answers_do result why answers = record {
-    state = answered_kind result answers.kind;
+  pub does_beside : (result : Result Kind Stop) → IfErr result IsQueryStop → IfOk result (λ _. after ≡ next) → Answers text refused result old new
+      → Does state (record { state = next; told = text; refused = refused }) result after old new
+  does_beside result why is answers = record {
+    state = answered result is answers.kind;
     told = answers.told;
     folder = λ told. same_folder result why answers.says.disk.same_folder;
     tells_state = λ told says. same_state result why (subst (λ (f : Folder). FolderSays f state) (sym answers.says.disk.same_folder) says);
+    refused = λ _. answers.says;
     why = step_stop result why;
     disk = no_disk_fault result why answers.says.disk.same_faults;
     say = answers.says.counts;
     telling = record { folder = answers.says.disk.same_telling; output = answers.says.telling };
+    safe = λ at. safe_said state next text refused result old new answers (λ image says. image_next image says) at;
   }
 
+unchanged : (state : State) (result : Result Kind Stop) → IfOk result (λ _. state ≡ state)
+unchanged state (Ok kind) = refl
+unchanged state (Err stop) = tt
+
+-- a step that changes nothing
 pub does_answer : (state : State) (text : List ℕ) (refused : Bool) (result : Result Kind Stop) (old new : Outside) → IfErr result IsQueryStop → Answers text refused result old new
     → Does state (record { state = state; told = text; refused = refused }) result state old new
-does_answer state text refused result old new why answers = answers_do state text refused old new result why answers
+does_answer state text refused result old new why answers = does_beside state state.cursors text refused state old new result why (unchanged state result) answers
 
--- ---- a step at a layer
+-- a refusal
+pub does_refused : (state : State) (given : Refusal) (result : Result Kind Stop) (old new : Outside) → IfErr result (λ stop. stop ≡ OutputFault) → Answers (refusal_text given) true result old new
+    → Does state (refuses state given) result state old new
+does_refused state given result old new why answers = does_answer state (refusal_text given) true result old new (output_alone result why) answers
+
+-- ---- a step over what is looked up
 
 -- a step that is given, whose state is the one before it
 pub does_still : (state : State) (stepped : Stepped) (result : Result Kind Stop) (old new : Outside) → stepped.state ≡ state → IfErr result IsQueryStop → Answers stepped.told stepped.refused result old new
@@ -104,22 +126,22 @@ pub does_still : (state : State) (stepped : Stepped) (result : Result Kind Stop)
 does_still state stepped result old new same why answers =
     subst (λ (s : State). Does state (record { state = s; told = stepped.told; refused = stepped.refused }) result state old new) (sym same) (does_answer state stepped.told stepped.refused result old new why answers)
 
--- what asks something at a layer changes nothing
-pub asks_still : (state : State) (named : LayerRef) (reply_of : ℕ → List ℕ) (found : Option ℕ) → (at_number state named found (λ k. does state (reply_of k))).state ≡ state
-asks_still state named reply_of None = refl
-asks_still state named reply_of (Some k) = refl
+-- what asks something changes nothing
+pub asks_still : {A : Type 0} (state : State) (found : Result A Refusal) (reply_of : A → List ℕ) → (at_found state found (λ a. does state (reply_of a))).state ≡ state
+asks_still state (Ok a) reply_of = refl
+asks_still state (Err given) reply_of = refl
 
--- at a layer that is found, and at none
-module _ (result : Result Kind Stop) (old new : Outside) (state : State) (named : LayerRef) (step : ℕ → Stepped) where
-  pub answers_found : (k : ℕ) → resolve state named ≡ Some k → Answers (step k).told (step k).refused result old new → Answers (at_layer state named step).told (at_layer state named step).refused result old new
-  answers_found k is h = subst (λ (found : Option ℕ). Answers (at_number state named found step).told (at_number state named found step).refused result old new) (sym is) h
+-- over what is found, and where nothing is
+module _ {A : Type 0} (result : Result Kind Stop) (old new : Outside) (state : State) (found : Result A Refusal) (step : A → Stepped) where
+  pub answers_found : (a : A) → found ≡ Ok a → Answers (step a).told (step a).refused result old new → Answers (at_found state found step).told (at_found state found step).refused result old new
+  answers_found a is h = subst (λ (r : Result A Refusal). Answers (at_found state r step).told (at_found state r step).refused result old new) (sym is) h
 
-  pub answers_missing : resolve state named ≡ None → Answers (refusal_text (refusal.NoLayer named)) true result old new → Answers (at_layer state named step).told (at_layer state named step).refused result old new
-  answers_missing is h = subst (λ (found : Option ℕ). Answers (at_number state named found step).told (at_number state named found step).refused result old new) (sym is) h
+  pub answers_missing : (given : Refusal) → found ≡ Err given → Answers (refusal_text given) true result old new → Answers (at_found state found step).told (at_found state found step).refused result old new
+  answers_missing given is h = subst (λ (r : Result A Refusal). Answers (at_found state r step).told (at_found state r step).refused result old new) (sym is) h
 
   module _ (after : State) where
-    pub does_found : (k : ℕ) → resolve state named ≡ Some k → Does state (step k) result after old new → Does state (at_layer state named step) result after old new
-    does_found k is h = subst (λ (found : Option ℕ). Does state (at_number state named found step) result after old new) (sym is) h
+    pub does_found : (a : A) → found ≡ Ok a → Does state (step a) result after old new → Does state (at_found state found step) result after old new
+    does_found a is h = subst (λ (r : Result A Refusal). Does state (at_found state r step) result after old new) (sym is) h
 
-    pub does_missing : resolve state named ≡ None → Does state (refuses state (refusal.NoLayer named)) result after old new → Does state (at_layer state named step) result after old new
-    does_missing is h = subst (λ (found : Option ℕ). Does state (at_number state named found step) result after old new) (sym is) h
+    pub does_missing : (given : Refusal) → found ≡ Err given → Does state (refuses state given) result after old new → Does state (at_found state found step) result after old new
+    does_missing given is h = subst (λ (r : Result A Refusal). Does state (at_found state r step) result after old new) (sym is) h

@@ -1,10 +1,13 @@
 -- That each step leaves a number for each term and each predicate of a layer.
-use Rattle.std.proofs.Common.{◌≡◌, ℕ, zero, suc, ◌<◌, ◌^◌, Bool, true, false, ◌&&◌, cond, nat_lt, ◌++◌, flat_map, Option, Some, None, IfSome, IsTrue, true≢false, refl, sym, ap, ◌∙◌, subst}
+use Rattle.std.proofs.Common.{◌≡◌, ℕ, zero, suc, ◌<◌, ◌^◌, Bool, true, false, ◌&&◌, cond, nat_lt, List, ◌++◌, flat_map, Option, Some, None, Result, Ok, Err, IfSome, IsTrue, true≢false, refl, sym, ap, ◌∙◌, subst}
 use Rattle.std.specs.Bool.{if◌then◌else◌}
 use Rattle.std.specs.Option.{is_some, option_map, option_and_then}
 use Rattle.std.specs.Ordering.{nat_cmp, eq_by_cmp}
 use Rattle.std.specs.Cmp.{nat_cmp_total, Equal-is}
 use Rattle.std.specs.FinMap.{get, insert, get-insert, nat_cmp-IsAntisymmetric}
+use Rattle.ts_labels.specs.Moves.{made_label, moved_label}
+use Rattle.ts_labels.specs.declared.label.Label.{Label}
+use Rattle.ts_labels.specs.declared.label_error.LabelError.{LabelError}
 use Rattle.ts_model.specs.ChainTotals.{added_along}
 use Rattle.ts_model.specs.History.{History, LayerRecord, IsWellKept, additions_at, chain_within, parent_at, set_or_none}
 use Rattle.ts_model.specs.Sets.{members}
@@ -15,13 +18,17 @@ use Rattle.ts_plain.proofs.GrowthLaws.{ParentStands, get-old}
 use Rattle.ts_script.specs.Replies.{reply_text}
 use Rattle.ts_script.specs.declared.command.Command.{Command}
 use Rattle.ts_script.specs.declared.command.Command.TheVariants as command
-use Rattle.ts_script.specs.declared.command.LayerRef.{LayerRef}
-use Rattle.ts_script.specs.declared.command.Ref.TheVariants.{Layer as AtLayer}
 use Rattle.ts_script.specs.declared.reply.Reply.TheVariants as reply
+use Rattle.ts_script.specs.declared.reply.Refusal.{Refusal}
 use Rattle.ts_script.specs.declared.reply.Refusal.TheVariants as refusal
+use Rattle.ts_store.specs.Fetches.{opening}
+use Rattle.ts_store.specs.Makes.{base_layer, child_layer, has_room, is_counted_at, makes, next_number, squashed_layer, with_layer, with_newest}
+use Rattle.ts_store.specs.Puts.{puts}
+use Rattle.ts_store.specs.Resolve.{find_cursor, find_label, find_layer, find_ref, find_target}
 use Rattle.ts_store.specs.Stands.{AreCounted}
 use Rattle.ts_store.specs.State.{State}
-use Rattle.ts_store.specs.Step.{Stepped, at_number, base_layer, child_layer, does, has_room, is_counted_at, makes, next_number, refuses, resolve, squashed_layer, step_of, with_layer}
+use Rattle.ts_store.specs.Step.{step_of}
+use Rattle.ts_store.specs.Stepped.{Stepped, at_found, does, refuses}
 use Rattle.ts_store.proofs.NumberLaws.{next_is_new}
 
 second : (a b : Bool) → (a && b) ≡ true → b ≡ true
@@ -67,13 +74,13 @@ module _ (history : History) (kept : IsWellKept history) (n : ℕ) (new : IsNewN
           same_counted k (ap is_some old) ∙ counted k l old
 
 module _ (state : State) (kept : IsWellKept state.history) (counted : AreCounted state.history) where
-  counted_makes : (layer : LayerRecord) → AreCounted (makes state layer).state.history
+  pub counted_makes : (layer : LayerRecord) → AreCounted (makes state layer).state.history
   counted_makes layer = by_room (has_room state.history layer) refl
     where
       made : Bool → Stepped
       made room =
           if room
-          then does (record { history = with_layer state.history layer; last = Some (next_number state.history) }) (reply_text (reply.Layer (next_number state.history)))
+          then does (with_newest state layer) (reply_text (reply.Layer (next_number state.history)))
           else refuses state refusal.Full
 
       by_room : (room : Bool) → has_room state.history layer ≡ room → AreCounted (made room).state.history
@@ -82,21 +89,36 @@ module _ (state : State) (kept : IsWellKept state.history) (counted : AreCounted
           (second (nat_lt (next_number state.history) (2 ^ 32)) (is_counted_at (with_layer state.history layer) (next_number state.history)) e) counted
       by_room false e = counted
 
-  counted_at : (named : LayerRef) (o : Option ℕ) (step : ℕ → Stepped) → ((k : ℕ) → AreCounted (step k).state.history) → AreCounted (at_number state named o step).state.history
-  counted_at named None step each = counted
-  counted_at named (Some k) step each = each k
+  counted_puts : (name : List ℕ) (next : Result Label LabelError) → AreCounted (puts state name next).state.history
+  counted_puts name (Ok label) = counted
+  counted_puts name (Err error) = counted
+
+  counted_at : {A : Type 0} (found : Result A Refusal) (step : A → Stepped) → ((a : A) → AreCounted (step a).state.history) → AreCounted (at_found state found step).state.history
+  counted_at (Ok a) step each = each a
+  counted_at (Err given) step each = counted
 
   each_step : (asked : Command) → AreCounted (step_of state asked).state.history
+  each_step (command.BadCommand line) = counted
   each_step (command.BadTriple line) = counted
   each_step (command.TooLong line) = counted
+  each_step (command.Unfinished line) = counted
   each_step (command.Base body) = counted_makes (base_layer body)
-  each_step (command.Commit (AtLayer named) body) = counted_at named (resolve state named) _ (λ k. counted_makes (child_layer state.history k body))
-  each_step (command.Listing (AtLayer named) pattern) = counted_at named (resolve state named) _ (λ k. counted)
-  each_step (command.Has (AtLayer named) triple) = counted_at named (resolve state named) _ (λ k. counted)
-  each_step (command.Added named) = counted_at named (resolve state named) _ (λ k. counted)
-  each_step (command.Removed named) = counted_at named (resolve state named) _ (λ k. counted)
+  each_step (command.Commit at body) = counted_at (find_ref state at) _ (λ k. counted_makes (child_layer state.history k body))
+  each_step (command.Listing at pattern) = counted_at (find_ref state at) _ (λ k. counted)
+  each_step (command.Has at triple) = counted_at (find_ref state at) _ (λ k. counted)
+  each_step (command.Count at pattern) = counted_at (find_ref state at) _ (λ k. counted)
+  each_step (command.Added named) = counted_at (find_layer state named) _ (λ k. counted)
+  each_step (command.Removed named) = counted_at (find_layer state named) _ (λ k. counted)
   each_step command.Layers = counted
-  each_step (command.Squash (AtLayer named)) = counted_at named (resolve state named) _ (λ k. counted_makes (squashed_layer state.history k))
+  each_step command.Labels = counted
+  each_step (command.LabelNew name) = counted_puts name (made_label (get state.labels name))
+  each_step (command.LabelGet name) = counted_at (find_label state name) _ (λ label. counted)
+  each_step (command.LabelSet name version to) =
+      counted_at (find_label state name) _ (λ label. counted_at (find_target state to) _ (λ layer. counted_puts name (moved_label (Some label) version layer)))
+  each_step (command.Squash at) = counted_at (find_ref state at) _ (λ k. counted_makes (squashed_layer state.history k))
+  each_step (command.OpenCursor name at pattern) = counted_at (find_ref state at) _ (λ k. counted_at (opening state.cursors name) _ (λ _. counted))
+  each_step (command.Fetch name n) = counted_at (find_cursor state name) _ (λ left. counted)
+  each_step (command.CloseCursor name) = counted_at (find_cursor state name) _ (λ left. counted)
 
 -- where each term of a well kept history has a number, it has one after a step
 pub counted_after : (state : State) (asked : Command) → IsWellKept state.history → AreCounted state.history → AreCounted (step_of state asked).state.history

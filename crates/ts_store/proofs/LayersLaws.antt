@@ -9,7 +9,7 @@ use Rattle.ts_plain.specs.declared.write.PlainLayer.{PlainLayer}
 use Rattle.ts_plain.specs.Chain.{StandsIn}
 use Rattle.ts_plain.specs.History.{AreHistory, history_of}
 use Rattle.ts_plain.proofs.LookupLaws.{StandsIn-at}
-use Rattle.ts_script.specs.Replies.{reply_text, parent_word}
+use Rattle.ts_script.specs.Replies.{reply_text, layer_or_none}
 use Rattle.ts_script.specs.declared.reply.Reply.TheVariants as reply
 use Rattle.ts_model.specs.LayerText.{layer_text}
 use Rattle.ts_store.specs.Leaves.{AreLines}
@@ -28,7 +28,7 @@ every_one [] = refl
 every_one (layer ∷ layers) = ap (λ l. layer ∷ l) (every_one layers)
 
 pub is_line : (layer : PlainLayer) → AreLines (layer_line layer)
-is_line layer = inr (codes "layer " ++ layer_text layer.number ++ codes " parent " ++ parent_word layer.parent, refl)
+is_line layer = inr (codes "layer " ++ layer_text layer.number ++ codes " parent " ++ layer_or_none layer.parent, refl)
 
 module _ (history : History) where
   abbrev line_at : ℕ → List ℕ

@@ -1,8 +1,16 @@
 pub mod AnswerLaws
 pub mod BelowLaws
-pub mod CallLaws
+pub mod ChangeLaws
+pub mod CountLaws
 pub mod CountedLaws
+pub mod CursorLaws
+pub mod FoundLabels
+pub mod FetchLaws
 pub mod FoundLaws
+pub mod KeptLaws
+pub mod LabelFileLaws
+pub mod LabelLaws
+pub mod LabelLines
 pub mod LayersLaws
 pub mod NameLaws
 pub mod NextLaws
@@ -12,4 +20,8 @@ pub mod OpenLaws
 pub mod PlainLayers
 pub mod PrefixLaws
 pub mod PublishLaws
+pub mod PutLaws
+pub mod SafeLaws
+pub mod SettledLaws
 pub mod StandsLaws
+pub mod TellsLaws

@@ -1,5 +1,5 @@
 -- That the store's files have different names.
-use Rattle.std.proofs.Common.{◌≡◌, ◌≢◌, ℕ, ◌+◌, List, ◌++◌, length, get_or, codes, refl, ap, ◌∙◌, arith, length-append}
+use Rattle.std.proofs.Common.{◌≡◌, ◌≢◌, ℕ, ◌+◌, List, ◌++◌, length, get_or, codes, refl, ap, ◌∙◌, arith, length-append, append_assoc}
 use Rattle.std.proofs.lemmas.List.{append_cancel_right}
 use Rattle.ts_model.specs.LayerText.{layer_text}
 use Rattle.ts_model.proofs.Fronts.{same_fronts}
@@ -37,3 +37,11 @@ label_is_not_layer name n e = let ends : codes ".label" ≡ codes ".layer" = sam
 
 pub label_is_not_new : (name : List ℕ) → label_file_name name ≢ new_tmp
 label_is_not_new name e = let ends : codes ".label" ≡ codes "ew.tmp" = same_ending name (codes "n") (codes ".label") (codes "ew.tmp") refl e in omega (arith, ap (λ (text : List ℕ). get_or text 0 0) ends)
+
+pub label_file_name-tells : (a b : List ℕ) → label_file_name a ≡ label_file_name b → a ≡ b
+label_file_name-tells a b e = append_cancel_right a b (codes ".label") e
+
+pub rollup_is_not_label : (k : ℕ) (name : List ℕ) → rollup_name k ≢ label_file_name name
+rollup_is_not_label k name e =
+    let ends : codes "rollup" ≡ codes ".label" = same_ending (layer_text k ++ codes ".") name (codes "rollup") (codes ".label") refl (append_assoc (layer_text k) (codes ".") (codes "rollup") ∙ e) in
+    omega (arith, ap (λ (text : List ℕ). get_or text 0 0) ends)

@@ -20,7 +20,7 @@ use Rattle.ts_plain.proofs.GrowthLaws.{ParentStands}
 use Rattle.ts_plain.proofs.MadeLaws.{KeepsPlainRules-net_change}
 use Rattle.ts_plain.proofs.PlaceLaws.{AreHistory-push, HasAll, HasAll-net_removals, HasNone, HasNone-net_additions, IsAbove, history_of-push, record_of-net_change}
 use Rattle.ts_plain.proofs.RuleLaws.{KeepsPlainRules-of_base}
-use Rattle.ts_store.specs.Step.{is_counted_at, next_number, squashed_layer, with_layer}
+use Rattle.ts_store.specs.Makes.{is_counted_at, next_number, squashed_layer, with_layer}
 use Rattle.ts_store.specs.Store.{changed_layer, IsNextLayer}
 use Rattle.ts_store.proofs.NumberLaws.{next_is_new, next_rises}
 

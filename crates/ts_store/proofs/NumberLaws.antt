@@ -17,7 +17,7 @@ use Rattle.ts_plain.specs.History.{AreHistory, entry_of, history_of}
 use Rattle.ts_plain.specs.NewLayer.{IsNewNumber}
 use Rattle.ts_plain.proofs.PlaceLaws.{IsAbove, numbers}
 use Rattle.ts_model.specs.History.{History}
-use Rattle.ts_store.specs.Step.{greatest_of, next_number}
+use Rattle.ts_store.specs.Makes.{greatest_of, next_number}
 
 both : (a b : Bool) → T a → T b → T (a && b)
 both true b p q = q

@@ -1,4 +1,4 @@
--- What a folder tells it tells once: its history, which is well kept, or the first of its files at fault.
+-- What a folder tells it tells once: its history, which is well kept, and its labels, or the first of its files at fault.
 use Rattle.std.proofs.Common.{◌≡◌, ℕ, ◌<◌, cond, Bool, true, false, List, Option, Some, None, IsTrue, IfSome, refl, sym, ap, ◌∙◌, subst, inl, inr, arith, true≢false}
 use Rattle.std.specs.Prelude.{MatchOption}
 use Rattle.std.specs.declared.cmp.Ordering.TheVariants.{Less, Equal, Greater}
@@ -7,15 +7,19 @@ use Rattle.std.specs.Cmp.{nat_cmp_total, Equal-is, tied_itself}
 use Rattle.std.specs.Cmp.Lexicographic.{slice_cmp, nat_list_cmp_total}
 use Rattle.std.specs.FinMap.{get, insert, contains_key, get-insert, same_map, nat_cmp-IsAntisymmetric, slice_cmp-IsAntisymmetric}
 use Rattle.std.proofs.lemmas.Bool.{cases_lt}
+use Rattle.ts_labels.specs.declared.label.Label.{Label}
 use Rattle.ts_model.specs.History.{History, LayerRecord, IsWellKept, IsLayerKept}
+use Rattle.ts_model.specs.Names.{IsLabelName}
 use Rattle.ts_model.specs.Sets.{members, from_list}
 use Rattle.ts_model.proofs.TripleSets.{from_list-members}
 use Rattle.ts_plain.proofs.OneLayer.{same_layer}
 use Rattle.ts_replace.specs.Names.{IsLayerNumber, layer_name, rollup_name, label_file_name}
 use Rattle.ts_site.specs.Folder.{Folder}
-use Rattle.ts_store.specs.FolderSays.{AreSoundLayers, FolderSays, IsLayerFile, IsFileOf, SaysBelow, IsFirstDamagedLayer, HasRollup, HasLabel, IsFirstDamaged}
+use Rattle.ts_store.specs.FolderSays.{AreSoundLayers, FolderSays, IsLayerFile, IsFileOf, IsLabelFileOf, SaysBelow, IsDamagedLabel, IsFirstDamagedLayer, HasRollup, IsFirstDamaged}
 use Rattle.ts_store.specs.State.{State}
 use Rattle.ts_store.proofs.BelowLaws.{AgreeTo, FallTo, kept_too}
+use Rattle.ts_store.proofs.LabelFileLaws.{one_label}
+use Rattle.ts_store.proofs.LabelLaws.{names_file}
 use Rattle.ts_store.proofs.PlainLayers.{kept_is_plain}
 
 -- ---- a file is that of one layer
@@ -52,6 +56,27 @@ module _ (folder : Folder) (a b : State) (one : FolderSays folder a) (other : Fo
 
   pub same_history : a.history ≡ b.history
   same_history = same_map nat_cmp_total nat_cmp-IsAntisymmetric a.history b.history same_at
+
+-- ---- and the labels
+
+module _ (folder : Folder) (a b : State) (one : FolderSays folder a) (other : FolderSays folder b) (name : List ℕ) where
+  at_label_file : (found : Option (List ℕ)) → MatchOption found (get a.labels name ≡ None) (IsLabelFileOf a.labels name) → MatchOption found (get b.labels name ≡ None) (IsLabelFileOf b.labels name)
+      → get a.labels name ≡ get b.labels name
+  at_label_file None here there = here ∙ sym there
+  at_label_file (Some file) (label, stands, is) (twin, found, too) =
+      stands ∙ ap Some (one_label label twin (one.named name label stands).proper (other.named name twin found).proper (sym is ∙ too)) ∙ sym found
+
+  -- where the name is none of a label, neither has it
+  at_no_label : (x y : Option Label) → get a.labels name ≡ x → get b.labels name ≡ y → (IsLabelName name → get a.labels name ≡ get b.labels name) → get a.labels name ≡ get b.labels name
+  at_no_label None None e f is = e ∙ sym f
+  at_no_label None (Some label) e f is = is (other.named name label f).named
+  at_no_label (Some label) y e f is = is (one.named name label e).named
+
+  label_at : get a.labels name ≡ get b.labels name
+  label_at = at_no_label (get a.labels name) (get b.labels name) refl refl (λ is. at_label_file (get folder (label_file_name name)) (one.labels name is) (other.labels name is))
+
+pub same_labels : (folder : Folder) (a b : State) → FolderSays folder a → FolderSays folder b → a.labels ≡ b.labels
+same_labels folder a b one other = same_map nat_list_cmp_total (slice_cmp-IsAntisymmetric nat_cmp-IsAntisymmetric) a.labels b.labels (label_at folder a b one other)
 
 -- ---- no file of a folder that tells a history is damaged
 
@@ -97,7 +122,11 @@ undamaged folder history kept layers k fault =
 pub not_damaged : (folder : Folder) (state : State) (name : List ℕ) → FolderSays folder state → IsFirstDamaged folder name → ⊥
 not_damaged folder state name says (inl (k, fault, named)) = undamaged folder state.history says.kept says.layers k fault
 not_damaged folder state name says (inr (inl (k, fault, named))) = true≢false (sym fault.stands.1 ∙ says.rollups k fault.stands.0)
-not_damaged folder state name says (inr (inr (label, fault, named))) = true≢false (sym fault.stands.1 ∙ says.labels label fault.stands.0)
+not_damaged folder state name says (inr (inr (label, fault, named))) =
+    let file = fault.damaged in
+    let told = subst (λ (found : Option (List ℕ)). MatchOption found (get state.labels label ≡ None) (IsLabelFileOf state.labels label)) file.stands (says.labels label file.named) in
+    let is = says.named label told.0 told.1 in
+    file.damaged told.0 is.proper (names_file folder state.history says.layers told.0.layer is.proper.1 is.stands) told.2
 
 -- ---- one of the files at fault is the first
 
@@ -140,4 +169,4 @@ same_damaged folder a b (inr (inl (k, fault, named))) (inr (inr (label, other, c
 same_damaged folder a b (inr (inr (label, fault, named))) (inl (j, other, called)) = absurd (fault.sound j other)
 same_damaged folder a b (inr (inr (label, fault, named))) (inr (inl (j, other, called))) = absurd (fault.no_rollup j other.stands)
 same_damaged folder a b (inr (inr (label, fault, named))) (inr (inr (text, other, called))) =
-    named ∙ ap label_file_name (one_text (HasLabel folder) label text fault.stands other.stands fault.first other.first) ∙ sym called
+    named ∙ ap label_file_name (one_text (IsDamagedLabel folder) label text fault.damaged other.damaged fault.first other.first) ∙ sym called

@@ -26,7 +26,7 @@ or_cases : (a b : Bool) → (a || b) ≡ true → (a ≡ true) ⊎ (b ≡ true)
 or_cases true b h = inl refl
 or_cases false b h = inr h
 
-and_first : (a b : Bool) → (a && b) ≡ true → a ≡ true
+pub and_first : (a b : Bool) → (a && b) ≡ true → a ≡ true
 and_first true b h = refl
 and_first false b h = h
 
@@ -39,7 +39,7 @@ module _ (history : History) (kept : IsWellKept history) where
       of_found (Some layer) e h = (kept k layer e).triples triple h
 
   -- the content of a chain is triples
-  content_triple : (chain : List ℕ) (triple : TextTriple) → IsTrue (contains (content_of history chain) triple) → IsTriple triple
+  pub content_triple : (chain : List ℕ) (triple : TextTriple) → IsTrue (contains (content_of history chain) triple) → IsTriple triple
   content_triple [] triple has = absurd (true≢false (sym has ∙ contains-empty triple_cmp triple))
   content_triple (k ∷ []) triple has = added_triple k triple has
   content_triple (k ∷ j ∷ chain) triple has =

@@ -1,5 +1,5 @@
 -- A text that is said piece by piece.
-use Rattle.std.proofs.Common.{◌≡◌, ℕ, ◌+◌, ◌<◌, ◌≤◌, Bool, true, false, cond, List, [], ◌∷◌, ◌++◌, filter, flat_map, length, map, take, drop, get_or, None, Result, Ok, Err, IfErr, inl, inr, refl, sym, ap, subst, ◌∙◌, arith, append_assoc, append-nil}
+use Rattle.std.proofs.Common.{◌≡◌, ℕ, ◌+◌, ◌<◌, ◌≤◌, Bool, true, false, cond, List, [], ◌∷◌, ◌++◌, filter, flat_map, length, map, take, drop, get_or, None, Result, Ok, Err, IfErr, inl, inr, refl, sym, ap, subst, ◌∙◌, arith, append_assoc, append-nil, codes, decimal}
 use denote.Ref.{Bor}
 use Rattle.std.proofs.lemmas.List.{take-append-drop, length-append, length-drop, length-map, length-take-le, get_or-map}
 use Rattle.std.proofs.lemmas.List.Elements.{filter_more, filter-append}
@@ -7,8 +7,11 @@ use Rattle.std.proofs.lemmas.List.Concat.{flat_map-append}
 use Rattle.std.proofs.Math.Seq.{take-append_seam}
 use Rattle.ts_model.specs.TextTriple.{TextTriple}
 use Rattle.ts_model.specs.Fits.{fits}
+use Rattle.ts_model.specs.LayerText.{layer_text}
 use Rattle.ts_nt.specs.TripleLine.{triple_line}
-use Rattle.ts_script.specs.Replies.{line}
+use Rattle.ts_script.specs.Replies.{layer_or_none, line, reply_text}
+use Rattle.ts_script.specs.declared.reply.Reply.{Reply}
+use Rattle.ts_script.specs.declared.reply.Reply.TheVariants as reply
 use Rattle.ts_store.specs.declared.stop.Stop.{Stop}
 use Rattle.ts_store.specs.declared.stop.Kind.{Kind}
 use Rattle.ts_store.specs.declared.stop.Stop.TheVariants.{Usage, Damaged, DiskFault, InputFault, OutputFault, InputLimit, Memory}
@@ -96,20 +99,20 @@ module _ {A : Type 0} (p : A → Bool) (f : A → List ℕ) (xs : List A) (i : �
   count_below below = omega (arith, length-filter p (take i xs), length-take-le i xs (omega arith))
 
   module _ (x : A) (below : i < length xs) (is : x ≡ get_or xs i x) where
-    more : (b : Bool) → p x ≡ b → filter p (take (i + 1) xs) ≡ filter p (take i xs) ++ cond b (x ∷ []) []
-    more b e = filter_more p xs i x below ∙ ap (λ y. filter p (take i xs) ++ cond (p y) (y ∷ []) []) (sym is) ∙ ap (λ c. filter p (take i xs) ++ cond c (x ∷ []) []) e
+    pub filtered : (b : Bool) → p x ≡ b → filter p (take (i + 1) xs) ≡ filter p (take i xs) ++ cond b (x ∷ []) []
+    filtered b e = filter_more p xs i x below ∙ ap (λ y. filter p (take i xs) ++ cond (p y) (y ∷ []) []) (sym is) ∙ ap (λ c. filter p (take i xs) ++ cond c (x ∷ []) []) e
 
     pub text_more : p x ≡ true → text_of (i + 1) ≡ text_of i ++ f x
-    text_more e = ap (flat_map f) (more true e) ∙ flat_map-append f (filter p (take i xs)) (x ∷ []) ∙ ap (λ l. text_of i ++ l) (append-nil (f x))
+    text_more e = ap (flat_map f) (filtered true e) ∙ flat_map-append f (filter p (take i xs)) (x ∷ []) ∙ ap (λ l. text_of i ++ l) (append-nil (f x))
 
     pub text_same : p x ≡ false → text_of (i + 1) ≡ text_of i
-    text_same e = ap (flat_map f) (more false e ∙ append-nil (filter p (take i xs)))
+    text_same e = ap (flat_map f) (filtered false e ∙ append-nil (filter p (take i xs)))
 
     pub count_more : p x ≡ true → length (filter p (take (i + 1) xs)) ≡ length (filter p (take i xs)) + 1
-    count_more e = ap length (more true e) ∙ length-append (filter p (take i xs)) (x ∷ [])
+    count_more e = ap length (filtered true e) ∙ length-append (filter p (take i xs)) (x ∷ [])
 
     pub count_same : p x ≡ false → length (filter p (take (i + 1) xs)) ≡ length (filter p (take i xs))
-    count_same e = ap length (more false e ∙ append-nil (filter p (take i xs)))
+    count_same e = ap length (filtered false e ∙ append-nil (filter p (take i xs)))
 
     module _ (e : p x ≡ true) (old between new piece left : List ℕ) (before : SaysPrefix AreLines (text_of i) old between piece) where
       more_of : (Is : List ℕ → Type 0) → ((a b : List ℕ) → AreLines a → Is b → Is (a ++ b)) → SaysPrefix Is (piece ++ f x) between new left → SaysPrefix Is (text_of (i + 1)) old new left
@@ -189,3 +192,27 @@ module _ {A : Type 0} (p : A → Bool) (f : A → List ℕ) (xs : List A) (i : �
       failed (n, front) =
           list_ended OutputFault (flat_map f (filter p xs)) total old new tt longer
           (lines_ended p f xs i x below is e old between new [] (drop n (f x)) before OutputFault (prefix_taken (IsSaidAt OutputFault) (f x) between new n tt front))
+
+-- ---- every triple is listed
+
+abbrev pub each : TextTriple → Bool
+each triple = true
+
+pub each_one : (triples : List TextTriple) → filter each triples ≡ triples
+each_one [] = refl
+each_one (triple ∷ triples) = ap (λ l. triple ∷ l) (each_one triples)
+
+-- ---- a reply of one line
+
+pub reply_is_longer : (given : Reply) → 0 < length (reply_text given)
+reply_is_longer (reply.Layer number) = line_is_longer (codes "layer " ++ layer_text number)
+reply_is_longer (reply.LayerParent number parent) = line_is_longer (codes "layer " ++ layer_text number ++ codes " parent " ++ layer_or_none parent)
+reply_is_longer (reply.Total count) = line_is_longer (codes "total " ++ decimal count)
+reply_is_longer (reply.Count count) = line_is_longer (codes "count " ++ decimal count)
+reply_is_longer reply.Yes = line_is_longer (codes "yes")
+reply_is_longer reply.No = line_is_longer (codes "no")
+reply_is_longer (reply.LabelIs name version layer) = line_is_longer (codes "label " ++ name ++ 32 ∷ decimal version ++ 32 ∷ layer_or_none layer)
+reply_is_longer (reply.CursorOpen name) = line_is_longer (codes "cursor " ++ name ++ codes " open")
+reply_is_longer (reply.CursorClosed name) = line_is_longer (codes "cursor " ++ name ++ codes " closed")
+reply_is_longer reply.More = line_is_longer (codes "more")
+reply_is_longer reply.AtEnd = line_is_longer (codes "end")

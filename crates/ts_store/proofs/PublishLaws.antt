@@ -6,6 +6,7 @@ use Rattle.std.specs.Option.{is_some}
 use Rattle.std.specs.Ordering.{nat_cmp, eq_by_cmp, is_eq}
 use Rattle.std.specs.Cmp.{nat_cmp_total, Equal-is, tied_itself}
 use Rattle.std.specs.FinMap.{get, remove, contains_key, get-insert, nat_cmp-IsAntisymmetric}
+use Rattle.ts_labels.specs.Labels.{Labels}
 use Rattle.ts_model.specs.History.{History, LayerRecord, IsWellKept}
 use Rattle.ts_model.specs.LayerText.{layer_text}
 use Rattle.ts_model.specs.Order.{triple_cmp, triple_cmp_total, triple_cmp-IsAntisymmetric}
@@ -20,22 +21,31 @@ use Rattle.ts_script.specs.Replies.{line, reply_text, refusal_text}
 use Rattle.ts_script.specs.declared.reply.Reply.TheVariants as reply
 use Rattle.ts_script.specs.declared.reply.Refusal.TheVariants as refusal
 use Rattle.ts_site.specs.Faults.{CountsFault, is_err_and}
-use Rattle.ts_site.specs.Folder.{Folder, IsAnyAt}
-use Rattle.ts_site.specs.Outside.{Outside}
+use Rattle.ts_site.specs.Folder.{Folder}
+use Rattle.ts_replace.specs.CrashSafe.{LeavesFolder as CrashLeaves}
+use Rattle.ts_site.specs.Outside.{IsHonest, Outside}
+use Rattle.ts_site.proofs.GoesLemmas.{says_nothing}
+use Rattle.ts_store.specs.Safe.{ChangesSafely}
+use Rattle.ts_store.proofs.SafeLaws.{safe_change, safe_nothing}
 use Rattle.ts_site.proofs.FolderLemmas.{get-insert_same, get-insert_other, get-remove_other}
 use Rattle.ts_store.specs.declared.stop.Stop.{Stop}
 use Rattle.ts_store.specs.declared.stop.Stop.TheVariants.{DiskFault, OutputFault, Memory}
 use Rattle.ts_store.specs.declared.stop.Kind.{Kind}
 use Rattle.ts_store.specs.declared.stop.Kind.TheVariants.{Done}
+use Rattle.ts_store.specs.Cursors.{Cursors}
 use Rattle.ts_store.specs.Does.{Answers, Does}
-use Rattle.ts_store.specs.FolderSays.{FolderSays, IsFileOf, IsLayerFile}
-use Rattle.ts_store.specs.Leaves.{Follows, LeavesFolder, LeavesState, LeavesTold}
+use Rattle.ts_store.specs.FolderSays.{FolderSays, IsFileOf, IsLabelFileOf, IsLayerFile}
+use Rattle.ts_store.specs.Leaves.{Follows, LeavesTold}
+use Rattle.ts_store.specs.Named.{AreLabelsOf}
 use Rattle.ts_store.specs.Publishes.{AddsLayerTo, KeepsLayers, LeavesReplaced}
 use Rattle.ts_store.specs.State.{State}
-use Rattle.ts_store.specs.Step.{Stepped, does, has_room, is_counted_at, makes, next_number, refuses, with_layer}
-use Rattle.ts_store.specs.Stops.{IsStepStop, KeepsTelling, is_disk_fault, is_output_fault, kind_of}
+use Rattle.ts_store.specs.Makes.{has_room, is_counted_at, makes, next_number, with_layer, with_newest}
+use Rattle.ts_store.specs.Stepped.{Stepped, does, refuses}
+use Rattle.ts_store.specs.Stops.{KeepsTelling, is_disk_fault, is_output_fault, kind_of}
 use Rattle.ts_store.specs.Store.{IsNextLayer, IsSound, state_of}
 use Rattle.ts_store.proofs.AnswerLaws.{does_answer, output_alone}
+use Rattle.ts_store.proofs.ChangeLaws.{folder_after, says_after, stop_after}
+use Rattle.ts_store.proofs.LabelLaws.{named_grown}
 use Rattle.ts_store.proofs.NameLaws.{layer_name-tells, layer_is_not_new, rollup_is_not_layer, rollup_is_not_new, label_is_not_layer, label_is_not_new}
 use Rattle.ts_store.proofs.NextLaws.{history_of-next}
 
@@ -48,10 +58,12 @@ does_nothing before stepped after outside longer = record {
   told = λ _. (0, longer, inl refl, sym (append-nil outside.told));
   folder = λ _. refl;
   tells_state = λ _ says. says;
+  refused = λ _. record { telling = refl; counts = refl; disk = record { same_telling = refl; same_folder = refl; same_faults = refl }; images = says_nothing outside };
   why = tt;
   disk = refl;
   say = refl;
   telling = record { folder = refl; output = refl };
+  safe = λ at. safe_nothing before stepped Memory outside at;
 }
 
 longer_line : (text : List ℕ) → 0 < length (line text)
@@ -62,7 +74,7 @@ longer_line text = omega (arith, length-append text (10 ∷ []))
 abbrev made_or_full : State → LayerRecord → Bool → Stepped
 made_or_full state layer room =
     if room
-    then does (record { history = with_layer state.history layer; last = Some (next_number state.history) }) (reply_text (reply.Layer (next_number state.history)))
+    then does (with_newest state layer) (reply_text (reply.Layer (next_number state.history)))
     else refuses state refusal.Full
 
 pub makes_tells : (state : State) (layer : LayerRecord) → 0 < length (makes state layer).told
@@ -106,20 +118,7 @@ does_full state stepped result old new is why answers =
 
 -- ---- the folder
 
--- the temporary file says nothing
-pub says_any : (old new : Folder) (state : State) → IsAnyAt new_tmp old new → FolderSays old state → FolderSays new state
-says_any old new state any says = record {
-  kept = says.kept;
-  layers = λ k is. subst (λ (file : Option (List ℕ)). MatchOption file (get state.history k ≡ None) (IsFileOf state.history k)) (sym (same (layer_name k) (layer_is_not_new k) any)) (says.layers k is);
-  rollups = λ k is. ap is_some (same (rollup_name k) (rollup_is_not_new k) any) ∙ says.rollups k is;
-  labels = λ name is. ap is_some (same (label_file_name name) (label_is_not_new name) any) ∙ says.labels name is;
-}
-  where
-    same : (name : List ℕ) → name ≢ new_tmp → IsAnyAt new_tmp old new → get new name ≡ get old name
-    same name other (inl removed) = ap (λ f. get f name) removed ∙ get-remove_other old new_tmp name other
-    same name other (inr (bytes, put)) = ap (λ f. get f name) put ∙ get-insert_other old new_tmp bytes name other
-
-module _ (state : State) (layer : LayerRecord) (last : Option ℕ) (file : List ℕ) (number : IsLayerNumber (next_number state.history)) (is_file : IsLayerFile (next_number state.history) layer file)
+module _ (state : State) (layer : LayerRecord) (cursors : Cursors) (last : Option ℕ) (file : List ℕ) (number : IsLayerNumber (next_number state.history)) (is_file : IsLayerFile (next_number state.history) layer file)
     (kept : IsWellKept (with_layer state.history layer)) where
   abbrev n : ℕ
   n = next_number state.history
@@ -161,25 +160,28 @@ module _ (state : State) (layer : LayerRecord) (last : Option ℕ) (file : List 
         other_file (layer_name k) (λ same. true≢false (sym (ap (λ m. eq_by_cmp nat_cmp m n) (layer_name-tells k n is number same) ∙ itself) ∙ e)) (layer_is_not_new k) in
         subst (λ o. Tells k o (get changed (layer_name k))) (sym found) (subst (Tells k (get state.history k)) (sym bytes) (says.layers k is))
 
-    -- a folder that tells a history tells it with the new layer, once its file stands
-    pub says_made : FolderSays changed (record { history = after; last = last })
+    -- a folder that tells a state tells it with the new layer, once its file stands
+    pub says_made : FolderSays changed (record { history = after; labels = state.labels; cursors = cursors; last = last })
     says_made = record {
       kept = kept;
+      named = named_grown state.history n layer state.labels says.named;
       layers = λ k is. layers_after k (eq_by_cmp nat_cmp k n) is refl;
       rollups = λ k is. ap is_some (other_file (rollup_name k) (rollup_is_not_layer k n) (rollup_is_not_new k)) ∙ says.rollups k is;
-      labels = λ name is. ap is_some (other_file (label_file_name name) (label_is_not_layer name n) (label_is_not_new name)) ∙ says.labels name is;
+      labels = λ name is.
+          subst (λ (file : Option (List ℕ)). MatchOption file (get state.labels name ≡ None) (IsLabelFileOf state.labels name))
+          (sym (other_file (label_file_name name) (label_is_not_layer name n) (label_is_not_new name))) (says.labels name is);
     }
 
 -- ---- where a layer is published
 
-module _ (layers : List PlainLayer) (last : Option ℕ) (sound : IsSound layers last) (layer : PlainLayer) (next : IsNextLayer (history_of layers) layer) (file : List ℕ)
+module _ (layers : List PlainLayer) (labels : Labels) (cursors : Cursors) (last : Option ℕ) (history : AreHistory layers) (layer : PlainLayer) (next : IsNextLayer (history_of layers) layer) (file : List ℕ)
     (counted : is_counted_at (with_layer (history_of layers) (record_of layer)) layer.number ≡ true)
     (is_file : file ≡ plain_file layer.number layer.parent layer.additions.items layer.removals.items) (longer : AreHistory (layers ++ layer ∷ [])) where
   abbrev before : State
-  before = state_of layers last
+  before = state_of layers labels cursors last
 
   abbrev next_state : State
-  next_state = record { history = with_layer (history_of layers) (record_of layer); last = Some (next_number (history_of layers)) }
+  next_state = with_newest before (record_of layer)
 
   number_is : IsLayerNumber (next_number (history_of layers))
   number_is = subst IsLayerNumber next.number (next.rules.numbered, next.fits)
@@ -191,7 +193,7 @@ module _ (layers : List PlainLayer) (last : Option ℕ) (sound : IsSound layers 
       is_file ∙ (λ i. plain_file (next.number i) layer.parent (sym additions i) (sym removals i))
 
   well_kept : IsWellKept (with_layer (history_of layers) (record_of layer))
-  well_kept = subst IsWellKept (history_of-next layers sound.history layer next) longer.well_kept
+  well_kept = subst IsWellKept (history_of-next layers history layer next) longer.well_kept
 
   -- the layers in memory
   module _ (layers_after : List PlainLayer) (last_after : Option ℕ) where
@@ -205,86 +207,55 @@ module _ (layers : List PlainLayer) (last : Option ℕ) (sound : IsSound layers 
     After result = MatchResult result (λ kind. (kind ≡ Done) × Adds) (λ _. Adds ⊎ Keeps)
 
     history_added : Adds → history_of layers_after ≡ with_layer (history_of layers) (record_of layer)
-    history_added adds = ap history_of adds.0 ∙ history_of-next layers sound.history layer next
+    history_added adds = ap history_of adds.0 ∙ history_of-next layers history layer next
 
     last_added : Adds → last_after ≡ Some (next_number (history_of layers))
     last_added adds = adds.1 ∙ ap Some next.number
 
-    sound_added : Adds → IsSound layers_after last_after
-    sound_added adds = record {
+    sound_added : IsSound layers labels last → Adds → IsSound layers_after labels last_after
+    sound_added sound adds = record {
       history = subst AreHistory (sym adds.0) longer;
+      named =
+          subst (λ (h : History). AreLabelsOf h labels) (sym (history_added adds)) (named_grown (history_of layers) (next_number (history_of layers)) (record_of layer) labels sound.named);
       newest =
           let n = next_number (history_of layers) in
-          let stands : contains_key (history_of layers_after) n ≡ true = ap (λ h. contains_key h n) (history_added adds) ∙ ap is_some (get-made before (record_of layer) last file number_is is_layer_file well_kept) in
+          let stands : contains_key (history_of layers_after) n ≡ true = ap (λ h. contains_key h n) (history_added adds) ∙ ap is_some (get-made before (record_of layer) cursors last file number_is is_layer_file well_kept) in
           subst (λ (o : Option ℕ). IfSome o (λ n. IsTrue (contains_key (history_of layers_after) n))) (sym (last_added adds)) stands;
     }
 
-    sound_kept : Keeps → IsSound layers_after last_after
-    sound_kept keeps = subst (IsSound layers_after) (sym keeps.1) (subst (λ ls. IsSound ls last) (sym keeps.0) sound)
+    sound_kept : IsSound layers labels last → Keeps → IsSound layers_after labels last_after
+    sound_kept sound keeps = subst (IsSound layers_after labels) (sym keeps.1) (subst (λ ls. IsSound ls labels last) (sym keeps.0) sound)
 
-    pub sound_after : (result : Result Kind Stop) → After result → IsSound layers_after last_after
-    sound_after (Ok kind) h = sound_added h.1
-    sound_after (Err stop) (inl adds) = sound_added adds
-    sound_after (Err stop) (inr keeps) = sound_kept keeps
+    pub sound_after : (result : Result Kind Stop) → IsSound layers labels last → After result → IsSound layers_after labels last_after
+    sound_after (Ok kind) sound h = sound_added sound h.1
+    sound_after (Err stop) sound (inl adds) = sound_added sound adds
+    sound_after (Err stop) sound (inr keeps) = sound_kept sound keeps
 
-    state_after : (result : Result Kind Stop) → After result → IfOk result (λ kind. (state_of layers_after last_after ≡ next_state) × (kind ≡ kind_of false))
-    state_after (Ok kind) h = ((λ i. record { history = history_added h.1 i; last = last_added h.1 i }), h.0)
+    state_after : (result : Result Kind Stop) → After result → IfOk result (λ kind. (state_of layers_after labels cursors last_after ≡ next_state) × (kind ≡ kind_of false))
+    state_after (Ok kind) h = ((λ i. record { history = history_added h.1 i; labels = labels; cursors = cursors; last = last_added h.1 i }), h.0)
     state_after (Err stop) h = tt
 
   -- the folder
   module _ (old new : Folder) where
-    abbrev Put : Type 0
-    Put = new ≡ replaced old (layer_name layer.number) file
+    abbrev name : List ℕ
+    name = layer_name layer.number
 
-    put_next : Put → new ≡ replaced old (layer_name (next_number (history_of layers))) file
+    put_next : new ≡ replaced old name file → new ≡ replaced old (layer_name (next_number (history_of layers))) file
     put_next put = put ∙ ap (λ n. replaced old (layer_name n) file) next.number
 
-    follows : Put → Follows before next_state old new
-    follows put = inr (record {
+    follows : new ≡ replaced old name file → Follows before next_state old new
+    follows put = inr (inl (record {
       layer = record_of layer;
       history = refl;
+      labels = refl;
       file = file;
-      is_file = file_of_made before (record_of layer) last file number_is is_layer_file well_kept;
+      is_file = file_of_made before (record_of layer) cursors last file number_is is_layer_file well_kept;
       folder = put_next put;
-    })
+    }))
 
-    says_put : FolderSays old before → Put → FolderSays new next_state
+    says_put : FolderSays old before → new ≡ replaced old name file → FolderSays new next_state
     says_put says put =
-        subst (λ (f : Folder). FolderSays f next_state) (sym (put_next put)) (says_made before (record_of layer) (Some (next_number (history_of layers))) file number_is is_layer_file well_kept old says)
-
-    abbrev Left : Result Kind Stop → Type 0
-    Left result = LeavesReplaced result (layer_name layer.number) file old new
-
-    abbrev IsPublishStop : Stop → Type 0
-    IsPublishStop stop = (stop ≡ DiskFault) ⊎ (stop ≡ OutputFault)
-
-    at_fault : Left (Err DiskFault) → LeavesFolder (Err DiskFault) before next_state old new
-    at_fault (inl any) = inl any
-    at_fault (inr put) = inr (follows put)
-
-    pub folder_after : (result : Result Kind Stop) → IfErr result IsPublishStop → Left result → LeavesFolder result before next_state old new
-    folder_after (Ok kind) why left = follows left
-    folder_after (Err stop) (inl disk) left =
-        subst (λ stop. Left (Err stop) → LeavesFolder (Err stop) before next_state old new) (sym disk) at_fault left
-    folder_after (Err stop) (inr output) left =
-        subst (λ stop. Left (Err stop) → LeavesFolder (Err stop) before next_state old new) (sym output) follows left
-
-    module _ (says : FolderSays old before) where
-      says_at_fault : Left (Err DiskFault) → LeavesState (FolderSays new) (Err DiskFault) before next_state
-      says_at_fault (inl any) = inl (says_any old new before any says)
-      says_at_fault (inr put) = inr (says_put says put)
-
-      pub says_after : (result : Result Kind Stop) → IfErr result IsPublishStop → Left result → LeavesState (FolderSays new) result before next_state
-      says_after (Ok kind) why left = says_put says left
-      says_after (Err stop) (inl disk) left =
-          subst (λ stop. Left (Err stop) → LeavesState (FolderSays new) (Err stop) before next_state) (sym disk) says_at_fault left
-      says_after (Err stop) (inr output) left =
-          subst (λ stop. Left (Err stop) → LeavesState (FolderSays new) (Err stop) before next_state) (sym output) (says_put says) left
-
-  stop_after : (result : Result Kind Stop) → IfErr result (λ stop. (stop ≡ DiskFault) ⊎ (stop ≡ OutputFault)) → IfErr result IsStepStop
-  stop_after (Ok kind) why = tt
-  stop_after (Err stop) (inl disk) = subst IsStepStop (sym disk) tt
-  stop_after (Err stop) (inr output) = subst IsStepStop (sym output) tt
+        subst (λ (f : Folder). FolderSays f next_state) (sym (put_next put)) (says_made before (record_of layer) cursors (Some (next_number (history_of layers))) file number_is is_layer_file well_kept old says)
 
   module _ (layers_after : List PlainLayer) (last_after : Option ℕ) (result : Result Kind Stop) (old new : Outside)
       (kept : MatchResult result (λ kind. (kind ≡ Done) × AddsLayerTo layer layers layers_after last_after) (λ _. AddsLayerTo layer layers layers_after last_after ⊎ KeepsLayers layers last layers_after last_after))
@@ -293,18 +264,28 @@ module _ (layers : List PlainLayer) (last : Option ℕ) (sound : IsSound layers 
       (why : IfErr result (λ stop. (stop ≡ DiskFault) ⊎ (stop ≡ OutputFault)))
       (disk : CountsFault (is_err_and is_disk_fault result) old.disk_faults new.disk_faults)
       (say : CountsFault (is_err_and is_output_fault result) old.say_faults new.say_faults)
-      (telling : KeepsTelling old new) where
-    does_make : Does before (made_or_full before (record_of layer) true) result (state_of layers_after last_after) old new
+      (telling : KeepsTelling old new)
+      (safe : IsHonest old → CrashLeaves old.folder old.crash → ChangesSafely result (layer_name layer.number) file (reply_text (reply.Layer layer.number)) old new) where
+    -- the reply tells the number that the layer has
+    safe_numbered : IsHonest old → CrashLeaves old.folder old.crash → ChangesSafely result (layer_name layer.number) file (reply_text (reply.Layer (next_number (history_of layers)))) old new
+    safe_numbered honest leaves = subst (λ n. ChangesSafely result (layer_name layer.number) file (reply_text (reply.Layer n)) old new) next.number (safe honest leaves)
+
+    does_make : Does before (made_or_full before (record_of layer) true) result (state_of layers_after labels cursors last_after) old new
     does_make = record {
       state = state_after layers_after last_after result kept;
       told = λ tells. subst (λ n. LeavesTold result (reply_text (reply.Layer n)) old.told new.told) next.number (told tells);
-      folder = λ tells. folder_after old.folder new.folder result why (folder tells);
-      tells_state = λ tells says. says_after old.folder new.folder says result why (folder tells);
+      folder = λ tells. folder_after before next_state (layer_name layer.number) file old.folder new.folder (follows old.folder new.folder) result why (folder tells);
+      tells_state = λ tells says. says_after before next_state (layer_name layer.number) file old.folder new.folder says (says_put old.folder new.folder says) result why (folder tells);
+      refused = λ no. absurd (true≢false (sym no));
       why = stop_after result why;
       disk = disk;
       say = say;
       telling = telling;
+      safe = λ at.
+          safe_change before next_state (layer_name layer.number) file (reply_text (reply.Layer (next_number (history_of layers)))) result old new
+          (longer_line (codes "layer " ++ layer_text (next_number (history_of layers)))) (λ says. says_put old.folder (replaced old.folder (layer_name layer.number) file) says refl)
+          (folder at.honest.folder) (safe_numbered at.honest at.leaves) at;
     }
 
-    pub does_publish : Does before (makes before (record_of layer)) result (state_of layers_after last_after) old new
-    does_publish = subst (λ (s : Stepped). Does before s result (state_of layers_after last_after) old new) (sym (makes_counted before (record_of layer) layer.number next.number next.fits counted)) does_make
+    pub does_publish : Does before (makes before (record_of layer)) result (state_of layers_after labels cursors last_after) old new
+    does_publish = subst (λ (s : Stepped). Does before s result (state_of layers_after labels cursors last_after) old new) (sym (makes_counted before (record_of layer) layer.number next.number next.fits counted)) does_make

@@ -7,8 +7,9 @@ use Rattle.ts_store.specs.declared.stop.Stop.TheVariants.{OutputFault, Memory}
 use Rattle.ts_store.specs.declared.stop.Kind.{Kind}
 use Rattle.ts_store.specs.FolderSays.{FolderSays}
 use Rattle.ts_store.specs.Leaves.{LeavesFolder, LeavesState, LeavesTold}
+use Rattle.ts_store.specs.Safe.{IsSafe, IsSettledAt}
 use Rattle.ts_store.specs.State.{State}
-use Rattle.ts_store.specs.Step.{Stepped}
+use Rattle.ts_store.specs.Stepped.{Stepped}
 use Rattle.ts_store.specs.Stops.{IsStepStop, KeepsTelling, is_disk_fault, is_output_fault, kind_of}
 
 -- the stops of a command that leaves the disk alone
@@ -24,13 +25,16 @@ pub record Answers (text : List ℕ) (refused : Bool) (result : Result Kind Stop
   pub says : OnlySays (is_err_and is_output_fault result) old new
 
 -- The step is done, from the state before it: its answer and the state after, its reply, and the folder. A folder that told the
--- state before tells the one after.
+-- state before tells the one after. A step that is refused only says so. Where a crash leaves the folder before the step, it leaves at
+-- each moment the folder before or after it, and after it once the reply was told.
 pub record Does (before : State) (stepped : Stepped) (result : Result Kind Stop) (after : State) (old new : Outside) : Type 0 where
   pub state : IfOk result (λ kind. (after ≡ stepped.state) × (kind ≡ kind_of stepped.refused))
   pub told : IsTrue old.tells_output → LeavesTold result stepped.told old.told new.told
   pub folder : IsTrue old.tells_folder → LeavesFolder result before stepped.state old.folder new.folder
   pub tells_state : IsTrue old.tells_folder → FolderSays old.folder before → LeavesState (FolderSays new.folder) result before stepped.state
+  pub refused : IsTrue stepped.refused → OnlySays (is_err_and is_output_fault result) old new
   pub why : IfErr result IsStepStop
   pub disk : CountsFault (is_err_and is_disk_fault result) old.disk_faults new.disk_faults
   pub say : CountsFault (is_err_and is_output_fault result) old.say_faults new.say_faults
   pub telling : KeepsTelling old new
+  pub safe : IsSettledAt FolderSays before old → IsSafe FolderSays before stepped result old new

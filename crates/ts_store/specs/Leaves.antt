@@ -1,27 +1,47 @@
 -- What a step leaves of the folder, the state and the output, by how it was answered.
-use Rattle.std.specs.Prelude.{◌≡◌, ◌⊎◌, ℕ, ◌<◌, List, [], ◌∷◌, ◌++◌, take, length, Result, Ok, Err}
+use Rattle.std.specs.Prelude.{◌≡◌, ◌⊎◌, ℕ, ◌<◌, List, [], ◌∷◌, ◌++◌, take, length, Some, Result, Ok, Err}
+use Rattle.std.specs.FinMap.{get, insert}
+use Rattle.ts_labels.specs.LabelFile.{label_text}
+use Rattle.ts_labels.specs.declared.label.Label.{Label}
 use Rattle.ts_model.specs.History.{LayerRecord}
-use Rattle.ts_replace.specs.Names.{layer_name}
+use Rattle.ts_replace.specs.Names.{label_file_name, layer_name}
 use Rattle.ts_replace.specs.Replaced.{new_tmp, replaced}
 use Rattle.ts_site.specs.Folder.{Folder, IsAnyAt}
 use Rattle.ts_store.specs.declared.stop.Stop.{Stop}
 use Rattle.ts_store.specs.declared.stop.Stop.TheVariants.{DiskFault, OutputFault, Memory}
 use Rattle.ts_store.specs.declared.stop.Kind.{Kind}
 use Rattle.ts_store.specs.FolderSays.{IsFileOf}
+use Rattle.ts_store.specs.Makes.{next_number, with_layer}
 use Rattle.ts_store.specs.State.{State}
-use Rattle.ts_store.specs.Step.{next_number, with_layer}
 
 -- the folder has one file more: that of the next layer
 pub record AddsLayer (before after : State) (old new : Folder) : Type 0 where
   pub layer : LayerRecord
   pub history : after.history ≡ with_layer before.history layer
+  pub labels : after.labels ≡ before.labels
   pub file : List ℕ
   pub is_file : IsFileOf after.history (next_number before.history) file
   pub folder : new ≡ replaced old (layer_name (next_number before.history)) file
 
--- the folder follows the state from one to the next: as it was where the history is, and else with the file of the new layer
+-- the folder has a new file of one label, which is made or moved
+pub record ChangesLabel (before after : State) (old new : Folder) : Type 0 where
+  pub name : List ℕ
+  pub label : Label
+  pub differs : get before.labels name ≡ Some label → ⊥
+  pub history : after.history ≡ before.history
+  pub labels : after.labels ≡ insert before.labels name label
+  pub folder : new ≡ replaced old (label_file_name name) (label_text label)
+
+-- the files are those of both states
+pub record SameFiles (before after : State) (old new : Folder) : Type 0 where
+  pub history : after.history ≡ before.history
+  pub labels : after.labels ≡ before.labels
+  pub folder : new ≡ old
+
+-- The folder follows the state from one to the next: as it was where the history and the labels are, and else with the file of the
+-- new layer or of the label.
 abbrev pub Follows : State → State → Folder → Folder → Type 0
-Follows before after old new = ((after.history ≡ before.history) × (new ≡ old)) ⊎ AddsLayer before after old new
+Follows before after old new = SameFiles before after old new ⊎ (AddsLayer before after old new ⊎ ChangesLabel before after old new)
 
 -- It follows, also where only the reply was not said; at a fault of the disk it follows, or is as it was but for the temporary
 -- file; else it is as it was.

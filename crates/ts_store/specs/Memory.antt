@@ -1,16 +1,26 @@
 -- Where memory may run out.
-use Rattle.std.specs.Prelude.{◌≡◌, ◌⊎◌, ◌≤◌, ◌^◌, Bool, true, false, None}
-use Rattle.ts_script.specs.declared.command.Ref.TheVariants.{Layer as AtLayer}
+use Rattle.std.specs.Prelude.{◌⊎◌, ◌≤◌, ◌^◌, Bool, true, false, IsTrue, Result, is_err}
+use Rattle.std.specs.FinMap.{contains_key}
 use Rattle.ts_script.specs.declared.command.Command.{Command}
 use Rattle.ts_script.specs.declared.command.Command.TheVariants as command
+use Rattle.ts_script.specs.declared.reply.Refusal.{Refusal}
+use Rattle.ts_store.specs.Fetches.{opening}
+use Rattle.ts_store.specs.Makes.{next_number}
+use Rattle.ts_store.specs.Resolve.{find_cursor, find_layer, find_ref}
 use Rattle.ts_store.specs.State.{State}
-use Rattle.ts_store.specs.Step.{next_number, resolve}
 
--- the commands that need nothing of the folder: those at fault, and the one that lists the layers
+-- the commands that need nothing of the folder: those at fault, those that list the layers or the labels or tell a label, and those
+-- that fetch from a cursor or close it
 abbrev pub NeedsNoFile : Command → Type 0
+NeedsNoFile (command.BadCommand line) = Unit {0}
 NeedsNoFile (command.BadTriple line) = Unit {0}
 NeedsNoFile (command.TooLong line) = Unit {0}
+NeedsNoFile (command.Unfinished line) = Unit {0}
 NeedsNoFile command.Layers = Unit {0}
+NeedsNoFile command.Labels = Unit {0}
+NeedsNoFile (command.LabelGet name) = Unit {0}
+NeedsNoFile (command.Fetch name n) = Unit {0}
+NeedsNoFile (command.CloseCursor name) = Unit {0}
 NeedsNoFile _ = ⊥
 
 -- the commands whose reply is a line for each of some triples: memory may run out between two of them
@@ -18,18 +28,33 @@ abbrev pub is_listing : Command → Bool
 is_listing (command.Listing at pattern) = true
 is_listing (command.Added layer) = true
 is_listing (command.Removed layer) = true
+is_listing (command.Fetch name n) = true
 is_listing _ = false
 
--- Steps that never want memory: those that are refused by the lines of a body, by the greatest number of a layer, or by a layer that
--- doesn't stand, and the layers.
+-- nothing was found
+abbrev pub IsMissing : {A : Type 0} → Result A Refusal → Type 0
+IsMissing found = IsTrue (is_err found)
+
+-- Steps that never want memory: those that are refused by a line, by a name, by the greatest number of a layer, or by the cursors that
+-- are open; the layers; of labels all but making one; and closing a cursor.
 abbrev pub TakesNoMemory : State → Command → Type 0
+TakesNoMemory state (command.BadCommand line) = Unit {0}
 TakesNoMemory state (command.BadTriple line) = Unit {0}
 TakesNoMemory state (command.TooLong line) = Unit {0}
+TakesNoMemory state (command.Unfinished line) = Unit {0}
 TakesNoMemory state (command.Base body) = 2 ^ 32 ≤ next_number state.history
-TakesNoMemory state (command.Commit (AtLayer layer) body) = (resolve state layer ≡ None) ⊎ (2 ^ 32 ≤ next_number state.history)
-TakesNoMemory state (command.Listing (AtLayer layer) pattern) = resolve state layer ≡ None
-TakesNoMemory state (command.Has (AtLayer layer) triple) = resolve state layer ≡ None
-TakesNoMemory state (command.Added layer) = resolve state layer ≡ None
-TakesNoMemory state (command.Removed layer) = resolve state layer ≡ None
+TakesNoMemory state (command.Commit at body) = IsMissing (find_ref state at) ⊎ (2 ^ 32 ≤ next_number state.history)
+TakesNoMemory state (command.Listing at pattern) = IsMissing (find_ref state at)
+TakesNoMemory state (command.Has at triple) = IsMissing (find_ref state at)
+TakesNoMemory state (command.Count at pattern) = IsMissing (find_ref state at)
+TakesNoMemory state (command.Added layer) = IsMissing (find_layer state layer)
+TakesNoMemory state (command.Removed layer) = IsMissing (find_layer state layer)
 TakesNoMemory state command.Layers = Unit {0}
-TakesNoMemory state (command.Squash (AtLayer layer)) = (resolve state layer ≡ None) ⊎ (2 ^ 32 ≤ next_number state.history)
+TakesNoMemory state command.Labels = Unit {0}
+TakesNoMemory state (command.LabelNew name) = IsTrue (contains_key state.labels name)
+TakesNoMemory state (command.LabelGet name) = Unit {0}
+TakesNoMemory state (command.LabelSet name version to) = Unit {0}
+TakesNoMemory state (command.Squash at) = IsMissing (find_ref state at) ⊎ (2 ^ 32 ≤ next_number state.history)
+TakesNoMemory state (command.OpenCursor name at pattern) = IsMissing (find_ref state at) ⊎ IsMissing (opening state.cursors name)
+TakesNoMemory state (command.Fetch name n) = IsMissing (find_cursor state name)
+TakesNoMemory state (command.CloseCursor name) = Unit {0}

@@ -1,4 +1,4 @@
--- What giving a folder a layer leaves.
+-- What giving a folder a file leaves of it, and what a layer leaves of those in memory.
 use Rattle.std.specs.Prelude.{◌≡◌, ◌∷◌, ◌++◌, [], ℕ, List, Option, Some, Result, Ok, Err}
 use Rattle.ts_plain.specs.declared.write.PlainLayer.{PlainLayer}
 use Rattle.ts_replace.specs.Replaced.{IsReplacedOrNot, replaced}

@@ -4,8 +4,8 @@ use Rattle.std.specs.FinMap.{get}
 use Rattle.ts_model.specs.History.{History, LayerRecord}
 use Rattle.ts_site.specs.Folder.{Folder}
 use Rattle.ts_store.specs.FolderSays.{FolderSays}
+use Rattle.ts_store.specs.Makes.{is_counted_at}
 use Rattle.ts_store.specs.State.{State}
-use Rattle.ts_store.specs.Step.{is_counted_at}
 
 -- each term and each predicate of a layer has a number below 2^32
 abbrev pub AreCounted : History → Type 0

@@ -1,20 +1,24 @@
--- What a session has in memory: the layers of its folder, and the newest layer of this run.
+-- What a session has in memory: the layers and labels of its folder, the open cursors, and the newest layer of this run.
 use Rattle.std.specs.Prelude.{◌≡◌, ℕ, ◌<◌, ◌^◌, List, Option, None, Some, All, IsTrue, false, IfSome}
 use Rattle.std.specs.FinMap.{contains_key}
+use Rattle.ts_labels.specs.Labels.{Labels}
 use Rattle.ts_model.specs.declared.signed.SignedTriple.{SignedTriple}
 use Rattle.ts_model.specs.History.{History, LayerRecord, content_at_parent}
 use Rattle.ts_model.specs.Sets.{contains}
 use Rattle.ts_plain.specs.declared.write.PlainLayer.{PlainLayer}
 use Rattle.ts_plain.specs.History.{AreHistory, LayerKeepsRules, history_of}
+use Rattle.ts_store.specs.Cursors.{Cursors}
+use Rattle.ts_store.specs.Makes.{base_layer, child_layer, next_number}
+use Rattle.ts_store.specs.Named.{AreLabelsOf}
 use Rattle.ts_store.specs.State.{State}
-use Rattle.ts_store.specs.Step.{base_layer, child_layer, next_number}
 
-abbrev pub state_of : List PlainLayer → Option ℕ → State
-state_of layers last = record { history = history_of layers; last = last }
+abbrev pub state_of : List PlainLayer → Labels → Cursors → Option ℕ → State
+state_of layers labels cursors last = record { history = history_of layers; labels = labels; cursors = cursors; last = last }
 
--- the layers are a history, and the newest one stands
-pub record IsSound (layers : List PlainLayer) (last : Option ℕ) : Type 0 where
+-- the layers are a history, the labels may stand beside it, and the newest layer stands
+pub record IsSound (layers : List PlainLayer) (labels : Labels) (last : Option ℕ) : Type 0 where
   pub history : AreHistory layers
+  pub named : AreLabelsOf (history_of layers) labels
   pub newest : IfSome last (λ n. IsTrue (contains_key (history_of layers) n))
 
 -- the layer of a body over a parent, or over nothing

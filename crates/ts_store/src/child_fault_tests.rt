@@ -204,7 +204,7 @@ fn calls_of_step(
 }
 
 /// The same of a command over a folder.
-fn calls_over(alloc: Global, site: &mut MemorySite, asked: Asked<'_>) -> Result<u64, Fail> {
+pub fn calls_over(alloc: Global, site: &mut MemorySite, asked: Asked<'_>) -> Result<u64, Fail> {
     let command = command(alloc, asked)?;
     let mut session = open(alloc, site)?;
     calls_of_step(&mut session, site, &command)

@@ -1,14 +1,28 @@
-ghost use Rattle.std.specs.Prelude.{◌≡◌, ℕ, List};
+// What holds of every folder, and of every step.
+ghost use Rattle.std.specs.Prelude.{◌≡◌, ℕ, List, IsTrue};
 ghost use Rattle.ts_model.specs.History.{IsWellKept};
 ghost use Rattle.ts_site.specs.Folder.{Folder};
-ghost use Rattle.ts_store.specs.State.{State};
+ghost use Rattle.ts_script.specs.declared.command.Command.{Command};
 ghost use Rattle.ts_store.specs.FolderSays.{FolderSays, IsFirstDamaged};
+ghost use Rattle.ts_store.specs.KeptState.{IsKeptState, IsProperCommand};
+ghost use Rattle.ts_store.specs.State.{State};
+ghost use Rattle.ts_store.specs.Step.{step_of};
 
-/// A folder tells one history at most, which is well kept, and then no file of it is damaged; at most one file is the first
-/// at fault.
+/// A folder tells one history and the labels beside it at most, and the history is well kept; then no file of it is damaged.
+/// At most one file is the first at fault.
 pub fn one_history()
-    ensures once { (folder : Folder) (a b : State) → FolderSays folder a → FolderSays folder b → a.history ≡ b.history }
+    ensures once { (folder : Folder) (a b : State) → FolderSays folder a → FolderSays folder b → (a.history ≡ b.history) × (a.labels ≡ b.labels) }
     ensures kept { (folder : Folder) (state : State) → FolderSays folder state → IsWellKept state.history }
     ensures sound { (folder : Folder) (state : State) (name : List ℕ) → FolderSays folder state → IsFirstDamaged folder name → ⊥ }
     ensures first { (folder : Folder) (a b : List ℕ) → IsFirstDamaged folder a → IsFirstDamaged folder b → a ≡ b }
+{}
+
+/// A command that is refused changes neither the history nor a label, a cursor or the newest layer.
+pub fn refused_changes_nothing()
+    ensures { (state : State) (asked : Command) → IsTrue (step_of state asked).refused → (step_of state asked).state ≡ state }
+{}
+
+/// What a state keeps it keeps after each step.
+pub fn steps_keep()
+    ensures { (state : State) (asked : Command) → IsProperCommand asked → IsKeptState state → IsKeptState (step_of state asked).state }
 {}

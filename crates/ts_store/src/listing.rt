@@ -51,16 +51,36 @@ pub(crate) fn list<W: Site>(
     let mut piece = Vec::new(alloc);
     match lines(site, triples, pattern, &mut piece) {
         Err(stop) => Err(stop),
-        Ok(count) => end(site, &mut piece, count),
+        Ok(count) => end(site, &mut piece, &Reply::Total(count as u128)),
     }
 }
 
-/// Says what is left of the lines, and how many they are.
-fn end<W: Site>(site: &mut W, piece: &mut Vec<u8>, count: usize) -> Result<Kind, Stop>
-    ensures answers { Answers (piece.old.items ++ reply_text (Reply.Total count)) false result (W.outside site.old) (W.outside site.new) }
+/// Says a line for each triple, and then a last line. It keeps no more of the lines than a piece and a line.
+pub(crate) fn list_to<W: Site>(
+    alloc: Global,
+    site: &mut W,
+    triples: &[Triple],
+    last: &Reply,
+) -> Result<Kind, Stop>
+    ensures answers { Answers (flat_map triple_line triples.now ++ reply_text last.now) false result (W.outside site.old) (W.outside site.new) }
     ensures why { IfErr result IsQueryStop }
 {
-    let line = reply_line(&Reply::Total(count as u128));
+    let mut piece = Vec::new(alloc);
+    for triple in triples {
+        match line(site, triple, &mut piece) {
+            Err(stop) => return Err(stop),
+            Ok(()) => {}
+        }
+    }
+    end(site, &mut piece, last)
+}
+
+/// Says what is left of the lines, and a last line.
+fn end<W: Site>(site: &mut W, piece: &mut Vec<u8>, last: &Reply) -> Result<Kind, Stop>
+    ensures answers { Answers (piece.old.items ++ reply_text last.now) false result (W.outside site.old) (W.outside site.new) }
+    ensures why { IfErr result IsQueryStop }
+{
+    let line = reply_line(last);
     if piece.extend_from_slice(line.bytes()).is_err() {
         return Err(Stop::Memory);
     }

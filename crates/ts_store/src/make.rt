@@ -1,22 +1,24 @@
 // Making a layer: of a body, or of the triples of another one.
-ghost use Rattle.std.specs.Prelude.{◌≡◌, ◌⊎◌, ◌≤◌, ◌^◌, IfErr, IfOk, IfSome, IsTrue, MatchOption, Some, Err, None};
+ghost use Rattle.std.specs.Prelude.{◌≡◌, ◌⊎◌, ◌≤◌, ◌^◌, IfErr, IfOk, IfSome, IsTrue, MatchOption, Err};
 ghost use Rattle.std.specs.FinMap.{contains_key, keys};
-ghost use Rattle.ts_plain.specs.Chain.{StandsIn};
 ghost use Rattle.ts_plain.specs.History.{AreHistory, history_of, record_of};
 ghost use Rattle.ts_replace.specs.Names.{IsLayerNumber};
 ghost use Rattle.ts_store.specs.Does.{Does};
-ghost use Rattle.ts_store.specs.Step.{greatest_of, makes, next_number, resolve, squashed_layer, step_of};
+ghost use Rattle.ts_store.specs.Makes.{greatest_of, makes, next_number, squashed_layer};
+ghost use Rattle.ts_store.specs.Memory.{IsMissing};
+ghost use Rattle.ts_store.specs.Resolve as specs;
+ghost use Rattle.ts_store.specs.Step.{step_of};
 ghost use Rattle.ts_store.specs.Store.{changed_layer, IsNextLayer};
 
 use crate::answer::refuse;
-use crate::find::find;
+use crate::find::find_ref;
 use crate::publish::make;
 use crate::store::Store;
 use crate::{Kind, Stop};
 use std::alloc::{AllocError, Global};
 use ts_model::SignedTriple;
 use ts_plain::{PlainLayer, content_of, net_change};
-use ts_script::{Command, LayerRef, Ref, Refusal};
+use ts_script::{Command, Ref, Refusal};
 use ts_site::{Disk, Site};
 
 /// Makes a layer that stands alone, of a body.
@@ -28,6 +30,7 @@ pub(crate) fn base<W: Site>(
 ) -> Result<Kind, Stop>
     ensures does { Does store.old (step_of store.old (Command.Base body.now)) result store.new (W.outside site.old) (W.outside site.new) }
     ensures untouched { result ≡ Err Stop.Memory → site.new ≡ site.old }
+    ensures stays { result ≡ Err Stop.Memory → store.new ≡ store.old }
     ensures free { 2 ^ 32 ≤ next_number store.old.history → IfErr result (λ stop. stop ≡ Stop.Memory → ⊥) }
 {
     make_changed(alloc, store, site, None, body)
@@ -38,16 +41,17 @@ pub(crate) fn commit<W: Site>(
     alloc: Global,
     store: &mut Store,
     site: &mut W,
-    named: LayerRef,
+    at: &Ref,
     body: &[SignedTriple],
 ) -> Result<Kind, Stop>
-    ensures does { Does store.old (step_of store.old (Command.Commit (Ref.Layer named) body.now)) result store.new (W.outside site.old) (W.outside site.new) }
+    ensures does { Does store.old (step_of store.old (Command.Commit at.now body.now)) result store.new (W.outside site.old) (W.outside site.new) }
     ensures untouched { result ≡ Err Stop.Memory → site.new ≡ site.old }
-    ensures free { (resolve store.old named ≡ None) ⊎ (2 ^ 32 ≤ next_number store.old.history) → IfErr result (λ stop. stop ≡ Stop.Memory → ⊥) }
+    ensures stays { result ≡ Err Stop.Memory → store.new ≡ store.old }
+    ensures free { IsMissing (specs.find_ref store.old at.now) ⊎ (2 ^ 32 ≤ next_number store.old.history) → IfErr result (λ stop. stop ≡ Stop.Memory → ⊥) }
 {
-    match find_number(store, named) {
-        Some(parent) => make_changed(alloc, store, site, Some(parent), body),
-        None => refuse(site, &Refusal::NoLayer(named)),
+    match find_ref(store, at) {
+        Ok(parent) => make_changed(alloc, store, site, Some(parent), body),
+        Err(refusal) => refuse(site, &refusal),
     }
 }
 
@@ -56,26 +60,16 @@ pub(crate) fn squash<W: Site>(
     alloc: Global,
     store: &mut Store,
     site: &mut W,
-    named: LayerRef,
+    at: &Ref,
 ) -> Result<Kind, Stop>
-    ensures does { Does store.old (step_of store.old (Command.Squash (Ref.Layer named))) result store.new (W.outside site.old) (W.outside site.new) }
+    ensures does { Does store.old (step_of store.old (Command.Squash at.now)) result store.new (W.outside site.old) (W.outside site.new) }
     ensures untouched { result ≡ Err Stop.Memory → site.new ≡ site.old }
-    ensures free { (resolve store.old named ≡ None) ⊎ (2 ^ 32 ≤ next_number store.old.history) → IfErr result (λ stop. stop ≡ Stop.Memory → ⊥) }
+    ensures stays { result ≡ Err Stop.Memory → store.new ≡ store.old }
+    ensures free { IsMissing (specs.find_ref store.old at.now) ⊎ (2 ^ 32 ≤ next_number store.old.history) → IfErr result (λ stop. stop ≡ Stop.Memory → ⊥) }
 {
-    match find_number(store, named) {
-        Some(from) => make_squashed(alloc, store, site, from),
-        None => refuse(site, &Refusal::NoLayer(named)),
-    }
-}
-
-/// The number of the layer that a command names.
-fn find_number(store: &Store, named: LayerRef) -> Option<u32>
-    ensures found { result ≡ resolve store.now named }
-    ensures stands { IfSome result (λ k. IsTrue (contains_key store.now.history k)) }
-{
-    match find(store, named) {
-        Some(layer) => Some(layer.number),
-        None => None,
+    match find_ref(store, at) {
+        Ok(from) => make_squashed(alloc, store, site, from),
+        Err(refusal) => refuse(site, &refusal),
     }
 }
 
@@ -90,6 +84,7 @@ fn make_changed<W: Site>(
     requires { IfSome parent (λ k. IsTrue (contains_key store.old.history k)) }
     ensures does { Does store.old (makes store.old (changed_layer store.old.history parent body.now)) result store.new (W.outside site.old) (W.outside site.new) }
     ensures untouched { result ≡ Err Stop.Memory → site.new ≡ site.old }
+    ensures stays { result ≡ Err Stop.Memory → store.new ≡ store.old }
     ensures free { 2 ^ 32 ≤ next_number store.old.history → IfErr result (λ stop. stop ≡ Stop.Memory → ⊥) }
 {
     match next(store.layers.as_slice()) {
@@ -111,6 +106,7 @@ fn make_squashed<W: Site>(
     requires { IsTrue (contains_key store.old.history from) }
     ensures does { Does store.old (makes store.old (squashed_layer store.old.history from)) result store.new (W.outside site.old) (W.outside site.new) }
     ensures untouched { result ≡ Err Stop.Memory → site.new ≡ site.old }
+    ensures stays { result ≡ Err Stop.Memory → store.new ≡ store.old }
     ensures free { 2 ^ 32 ≤ next_number store.old.history → IfErr result (λ stop. stop ≡ Stop.Memory → ⊥) }
 {
     match next(store.layers.as_slice()) {

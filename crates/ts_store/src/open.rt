@@ -1,30 +1,37 @@
 // Reading a folder.
 ghost use Rattle.std.specs.Prelude.{◌≡◌, ℕ, List, [], All, None, IsTrue, IfOk, IfErr, OnOk, map};
 ghost use Rattle.std.specs.FinMap.{contains_key};
-ghost use Rattle.std.specs.List.Sorted.{IsStrictlyIncreasing};
-ghost use Rattle.ts_plain.specs.History.{AreHistory};
+ghost use Rattle.std.specs.Cmp.Lexicographic.{slice_cmp};
+ghost use Rattle.std.specs.List.Sorted.{IsStrictlyIncreasing, IsStrictlySortedBy};
+ghost use Rattle.std.specs.Ordering.{nat_cmp};
+ghost use Rattle.ts_plain.specs.History.{AreHistory, history_of};
 ghost use Rattle.ts_plain.specs.PlainRules.{IsPlainLayer};
 ghost use Rattle.ts_replace.specs.Names.{IsLayerNumber, layer_name};
 ghost use Rattle.ts_replace.specs.Scanned.{AreThoseOf, Rise};
 ghost use Rattle.ts_site.specs.Faults.{is_err_and};
 ghost use Rattle.ts_site.specs.Outside.{OnlyReads};
 ghost use Rattle.ts_store.specs.FolderSays.{FolderSays, IsFirstDamaged};
-ghost use Rattle.ts_store.specs.Opened.{IsFirstOf, IsOtherStop, IsReadFrom, IsUnreadable};
+ghost use Rattle.ts_store.specs.Opened.{AreLayersRead, IsFirstOf, IsReadFrom, IsRollupStop, IsUnreadable};
+ghost use Rattle.ts_store.specs.Safe.{LeavesSettled};
+ghost use Rattle.ts_store.specs.State.{IsFresh};
 ghost use Rattle.ts_store.specs.Stops.{IsOpeningStop, is_disk_fault};
-ghost use Rattle.ts_store.specs.Store.{state_of};
 
 use crate::Stop;
+use crate::cursors::CursorTable;
+use crate::open_labels::read_labels;
 use crate::store::Store;
 use std::alloc::Global;
+use ts_model::LabelName;
 use ts_plain::{PlainError, PlainLayer, keeps_to_place, read_plain};
-use ts_replace::{Folder, ScanFail, label_file, layer_file, read_file, rollup_file};
+use ts_replace::{Folder, ScanFail, layer_file, read_file, rollup_file};
 use ts_site::{Disk, Site};
 
-/// Settles what reads, and reads every layer file of the folder.
+/// Settles what reads, and reads every layer file and every label file of the folder.
 pub(crate) fn read_folder<W: Site>(alloc: Global, site: &mut W) -> Result<Store, Stop>
-    ensures fresh { IfOk result (λ state. state.last ≡ None) }
+    ensures fresh { IfOk result IsFresh }
     ensures says { IsTrue (W.outside site.old).tells_folder → IfOk result (FolderSays (W.outside site.old).folder) }
     ensures damaged { IsTrue (W.outside site.old).tells_folder → IfErr result (λ stop. (name : List ℕ) → stop ≡ Stop.Damaged name → IsFirstDamaged (W.outside site.old).folder name) }
+    ensures settles { LeavesSettled result (W.outside site.old) (W.outside site.new) }
     ensures why { IfErr result IsOpeningStop }
     ensures reads { OnlyReads (is_err_and is_disk_fault result) (W.outside site.old) (W.outside site.new) }
 {
@@ -33,46 +40,67 @@ pub(crate) fn read_folder<W: Site>(alloc: Global, site: &mut W) -> Result<Store,
         Ok(()) => match Folder::scan(alloc, site) {
             Err(ScanFail::Failed) => Err(Stop::DiskFault),
             Err(ScanFail::Memory) => Err(Stop::Memory),
-            Ok(found) => match read_found(alloc, site, &found) {
-                Err(stop) => Err(stop),
-                Ok(layers) => Ok(Store { layers, last: None }),
-            },
+            Ok(found) => read_found(alloc, site, &found),
         },
     }
 }
 
 /// Reads what a scan found.
-fn read_found<W: Site>(alloc: Global, site: &mut W, found: &Folder) -> Result<Vec<PlainLayer>, Stop>
+fn read_found<W: Site>(alloc: Global, site: &mut W, found: &Folder) -> Result<Store, Stop>
     requires rise { Rise found.now.layers.items found.now.rollups.items found.now.labels.items }
     requires numbers { All IsLayerNumber found.now.layers.items }
     requires those { IsTrue (W.outside site.old).tells_folder → AreThoseOf (W.outside site.old).folder found.now.layers.items found.now.rollups.items found.now.labels.items }
-    ensures history { IfOk result (λ layers. AreHistory layers.items) }
-    ensures says { IsTrue (W.outside site.old).tells_folder → IfOk result (λ layers. FolderSays (W.outside site.old).folder (state_of layers.items None)) }
+    ensures fresh { IfOk result IsFresh }
+    ensures says { IsTrue (W.outside site.old).tells_folder → IfOk result (FolderSays (W.outside site.old).folder) }
     ensures damaged { IsTrue (W.outside site.old).tells_folder → IfErr result (λ stop. (name : List ℕ) → stop ≡ Stop.Damaged name → IsFirstDamaged (W.outside site.old).folder name) }
     ensures why { IfErr result IsOpeningStop }
     ensures reads { OnlyReads (is_err_and is_disk_fault result) (W.outside site.old) (W.outside site.new) }
 {
     match read_layers(alloc, site, found.layers.as_slice()) {
         Err(stop) => Err(stop),
-        Ok(layers) => match no_others(found) {
+        Ok(layers) => match no_rollup(found.rollups.as_slice()) {
             Err(stop) => Err(stop),
-            Ok(()) => Ok(layers),
+            Ok(()) => with_labels(alloc, site, layers, found.labels.as_slice()),
         },
     }
 }
 
-/// A rollup or a label is at fault: the first rollup, or else the first label.
-fn no_others(found: &Folder) -> Result<(), Stop>
-    ensures ok { OnOk result ((found.now.rollups.items ≡ []) × (found.now.labels.items ≡ [])) }
-    ensures err { IfErr result (IsOtherStop found.now.rollups.items found.now.labels.items) }
+/// A rollup is at fault.
+fn no_rollup(rollups: &[u32]) -> Result<(), Stop>
+    ensures ok { OnOk result (rollups.now ≡ []) }
+    ensures err { IfErr result (IsRollupStop rollups.now) }
 {
-    if let Some(number) = found.rollups.first() {
-        return Err(Stop::Damaged(rollup_file(*number)));
+    match rollups.first() {
+        Some(number) => Err(Stop::Damaged(rollup_file(*number))),
+        None => Ok(()),
     }
-    if let Some(label) = found.labels.first() {
-        return Err(Stop::Damaged(label_file(label)));
+}
+
+/// Reads the labels beside the layers.
+fn with_labels<W: Site>(
+    alloc: Global,
+    site: &mut W,
+    layers: Vec<PlainLayer>,
+    names: &[LabelName],
+) -> Result<Store, Stop>
+    requires history { AreHistory layers.items }
+    requires rise { IsStrictlySortedBy (slice_cmp nat_cmp) names.now }
+    requires told { IsTrue (W.outside site.old).tells_folder → AreLayersRead (W.outside site.old).folder (history_of layers.items) names.now }
+    ensures fresh { IfOk result IsFresh }
+    ensures says { IsTrue (W.outside site.old).tells_folder → IfOk result (FolderSays (W.outside site.old).folder) }
+    ensures damaged { IsTrue (W.outside site.old).tells_folder → IfErr result (λ stop. (name : List ℕ) → stop ≡ Stop.Damaged name → IsFirstDamaged (W.outside site.old).folder name) }
+    ensures why { IfErr result IsOpeningStop }
+    ensures reads { OnlyReads (is_err_and is_disk_fault result) (W.outside site.old) (W.outside site.new) }
+{
+    match read_labels(alloc, site, layers.as_slice(), names) {
+        Err(stop) => Err(stop),
+        Ok(labels) => Ok(Store {
+            layers,
+            labels,
+            cursors: CursorTable::new(alloc),
+            last: None,
+        }),
     }
-    Ok(())
 }
 
 /// Reads the layers of these numbers, which rise.

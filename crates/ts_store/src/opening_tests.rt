@@ -92,6 +92,48 @@ fn the_first_damaged_file_is_named(rt: HostRuntime) -> Result<(), Fail> {
     Ok(())
 }
 
+/// A label's file of another form, and one that names a layer that doesn't stand.
+#[test]
+fn a_label_of_no_form_or_no_layer_is_damaged(rt: HostRuntime) -> Result<(), Fail> {
+    for file in [
+        "",
+        "0\nnone",
+        "0\nnone\n\n",
+        "00\nnone\n",
+        "-1\nnone\n",
+        "18446744073709551616\nnone\n",
+        "1\n00000000\n",
+        "1\n00000002\n",
+        "1\n0000000A\n",
+        "0\r\nnone\r\n",
+    ] {
+        let files = [("main.label", file), FIRST];
+        assert!(rt; is_damaged(rt.alloc(), &files, "main.label")?, "{file}");
+    }
+    Ok(())
+}
+
+/// Labels come behind layers and rollups, and of several the first by its name's bytes is named: `b` before `b-c`, whose file's
+/// name is the lesser one.
+#[test]
+fn the_first_damaged_label_is_named(rt: HostRuntime) -> Result<(), Fail> {
+    let whole = ("a.label", "0\nnone\n");
+    let cut = ("b-c.label", "0\nnone");
+    let astray = ("b.label", "1\n00000002\n");
+    let rollup = ("00000001.rollup", "");
+    assert!(rt; is_damaged(rt.alloc(), &[cut, astray, whole, FIRST], astray.0)?);
+    assert!(rt; is_damaged(rt.alloc(), &[cut, whole, FIRST], cut.0)?);
+    assert!(rt; is_damaged(rt.alloc(), &[astray, rollup, FIRST], rollup.0)?);
+    assert!(rt;
+        is_damaged(
+            rt.alloc(),
+            &[cut, ("00000002.layer", ""), FIRST],
+            "00000002.layer"
+        )?
+    );
+    Ok(())
+}
+
 /// The parent of the fourth layer isn't the one before it, and one number is left out.
 #[test]
 fn a_folder_of_children_opens(rt: HostRuntime) -> Result<(), Fail> {

@@ -1,15 +1,20 @@
 // Giving a folder a layer.
 ghost use Rattle.std.specs.Prelude.{◌≡◌, ◌⊎◌, ◌<◌, ◌^◌, ◌&&◌, nat_lt, ◌∷◌, ◌++◌, [], IsTrue, IfOk, IfErr, Err, MatchOption, MatchResult, true, false, vec_len, vec_capacity};
+ghost use Rattle.ts_labels.specs.Labels.{Labels};
 ghost use Rattle.ts_plain.specs.History.{AreHistory, history_of, record_of};
 ghost use Rattle.ts_plain.specs.PlainFile.{plain_file};
 ghost use Rattle.ts_replace.specs.Names.{layer_name};
 ghost use Rattle.ts_replace.specs.Replaced.{Replaces};
 ghost use Rattle.ts_script.specs.Replies.{reply_text};
 ghost use Rattle.ts_site.specs.Faults.{CountsFault, is_err_and};
+ghost use Rattle.ts_store.specs.Cursors.{Cursors};
 ghost use Rattle.ts_store.specs.Does.{Does};
 ghost use Rattle.ts_store.specs.Leaves.{LeavesTold};
 ghost use Rattle.ts_store.specs.Publishes.{AddsLayerTo, KeepsLayers, LeavesReplaced};
-ghost use Rattle.ts_store.specs.Step.{is_counted_at, makes, with_layer};
+ghost use Rattle.ts_replace.specs.CrashSafe.{LeavesFolder};
+ghost use Rattle.ts_site.specs.Outside.{IsHonest};
+ghost use Rattle.ts_store.specs.Safe.{ChangesSafely};
+ghost use Rattle.ts_store.specs.Makes.{is_counted_at, makes, with_layer};
 ghost use Rattle.ts_store.specs.Stops.{KeepsTelling, is_disk_fault, is_output_fault};
 ghost use Rattle.ts_store.specs.Store.{IsNextLayer, IsSound, state_of};
 
@@ -33,12 +38,15 @@ pub(crate) fn make<W: Site>(
     site: &mut W,
     layer: PlainLayer,
 ) -> Result<Kind, Stop>
-    requires sound { IsSound layers.old.items last.old }
+    requires history { AreHistory layers.old.items }
     requires next { IsNextLayer (history_of layers.old.items) layer }
-    ensures sound { IsSound layers.new.items last.new }
-    ensures does { Does (state_of layers.old.items last.old) (makes (state_of layers.old.items last.old) (record_of layer)) result
-        (state_of layers.new.items last.new) (W.outside site.old) (W.outside site.new) }
+
+    // Whatever labels stand beside the layers, and whatever cursors are open.
+    ensures sound { (labels : Labels) → IsSound layers.old.items labels last.old → IsSound layers.new.items labels last.new }
+    ensures does { (labels : Labels) (cursors : Cursors) → Does (state_of layers.old.items labels cursors last.old) (makes (state_of layers.old.items labels cursors last.old) (record_of layer)) result
+        (state_of layers.new.items labels cursors last.new) (W.outside site.old) (W.outside site.new) }
     ensures untouched { result ≡ Err Stop.Memory → site.new ≡ site.old }
+    ensures stays { result ≡ Err Stop.Memory → KeepsLayers layers.old.items last.old layers.new.items last.new }
 {
     match file_of(alloc, layers.as_slice(), &layer) {
         Err(_) => Err(Stop::Memory),
@@ -96,6 +104,8 @@ fn publish<W: Site>(
         → LeavesTold result (reply_text (Reply.Layer layer.number)) (W.outside site.old).told (W.outside site.new).told }
     ensures folder { IsTrue (W.outside site.old).tells_folder
         → LeavesReplaced result (layer_name layer.number) file.now (W.outside site.old).folder (W.outside site.new).folder }
+    ensures safe { IsHonest (W.outside site.old) → LeavesFolder (W.outside site.old).folder (W.outside site.old).crash
+        → ChangesSafely result (layer_name layer.number) file.now (reply_text (Reply.Layer layer.number)) (W.outside site.old) (W.outside site.new) }
     ensures why { IfErr result (λ stop. (stop ≡ Stop.DiskFault) ⊎ (stop ≡ Stop.OutputFault)) }
     ensures disk { CountsFault (is_err_and is_disk_fault result) (W.outside site.old).disk_faults (W.outside site.new).disk_faults }
     ensures say { CountsFault (is_err_and is_output_fault result) (W.outside site.old).say_faults (W.outside site.new).say_faults }

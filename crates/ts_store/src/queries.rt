@@ -1,5 +1,6 @@
 // What is asked of a layer.
-ghost use Rattle.std.specs.Prelude.{◌≡◌, IfErr, None, false};
+ghost use Rattle.std.specs.Prelude.{◌≡◌, IfErr, IsTrue, false};
+ghost use Rattle.std.specs.FinMap.{contains_key};
 ghost use Rattle.std.specs.List.Sorted.{IsStrictlySortedBy};
 ghost use Rattle.ts_model.specs.Listing.{in_birth_order, select};
 ghost use Rattle.ts_model.specs.Order.{triple_cmp};
@@ -7,10 +8,12 @@ ghost use Rattle.ts_model.specs.Sets.{from_list};
 ghost use Rattle.ts_plain.specs.Chain.{StandsIn};
 ghost use Rattle.ts_plain.specs.History.{AreHistory, history_of};
 ghost use Rattle.ts_store.specs.Does.{Answers, IsQueryStop};
-ghost use Rattle.ts_store.specs.Step.{has_text, listing_text, resolve, step_of};
+ghost use Rattle.ts_store.specs.Memory.{IsMissing};
+ghost use Rattle.ts_store.specs.Resolve as specs;
+ghost use Rattle.ts_store.specs.Step.{has_text, listing_text, step_of};
 
 use crate::answer::{refuse, reply};
-use crate::find::find;
+use crate::find::{find, find_ref};
 use crate::listing::{list, list_all};
 use crate::store::Store;
 use crate::{Kind, Stop};
@@ -25,17 +28,17 @@ pub(crate) fn list_at<W: Site>(
     alloc: Global,
     store: &Store,
     site: &mut W,
-    named: LayerRef,
+    at: &Ref,
     pattern: &Pattern,
 ) -> Result<Kind, Stop>
-    ensures answers { let stepped = step_of store.now (Command.Listing (Ref.Layer named) pattern.now) in
+    ensures answers { let stepped = step_of store.now (Command.Listing at.now pattern.now) in
         Answers stepped.told stepped.refused result (W.outside site.old) (W.outside site.new) }
     ensures why { IfErr result IsQueryStop }
-    ensures free { resolve store.now named ≡ None → IfErr result (λ stop. stop ≡ Stop.Memory → ⊥) }
+    ensures free { IsMissing (specs.find_ref store.now at.now) → IfErr result (λ stop. stop ≡ Stop.Memory → ⊥) }
 {
-    match find(store, named) {
-        Some(layer) => list_layer(alloc, store.layers.as_slice(), site, layer, pattern),
-        None => refuse(site, &Refusal::NoLayer(named)),
+    match find_ref(store, at) {
+        Ok(number) => list_layer(alloc, store.layers.as_slice(), site, number, pattern),
+        Err(refusal) => refuse(site, &refusal),
     }
 }
 
@@ -43,15 +46,15 @@ fn list_layer<W: Site>(
     alloc: Global,
     layers: &[PlainLayer],
     site: &mut W,
-    layer: &PlainLayer,
+    number: u32,
     pattern: &Pattern,
 ) -> Result<Kind, Stop>
     requires history { AreHistory layers.now }
-    requires stands { StandsIn (history_of layers.now) layer.now }
-    ensures answers { Answers (listing_text (select (history_of layers.now) layer.now.number pattern.now)) false result (W.outside site.old) (W.outside site.new) }
+    requires stands { IsTrue (contains_key (history_of layers.now) number) }
+    ensures answers { Answers (listing_text (select (history_of layers.now) number pattern.now)) false result (W.outside site.old) (W.outside site.new) }
     ensures why { IfErr result IsQueryStop }
 {
-    match listing_of(alloc, layers, layer.number) {
+    match listing_of(alloc, layers, number) {
         Ok(triples) => list(alloc, site, triples.as_slice(), pattern),
         Err(_) => Err(Stop::Memory),
     }
@@ -61,16 +64,16 @@ fn list_layer<W: Site>(
 pub(crate) fn has_at<W: Site>(
     store: &Store,
     site: &mut W,
-    named: LayerRef,
+    at: &Ref,
     triple: &Triple,
 ) -> Result<Kind, Stop>
-    ensures answers { let stepped = step_of store.now (Command.Has (Ref.Layer named) triple.now) in
+    ensures answers { let stepped = step_of store.now (Command.Has at.now triple.now) in
         Answers stepped.told stepped.refused result (W.outside site.old) (W.outside site.new) }
     ensures why { IfErr result (λ stop. stop ≡ Stop.OutputFault) }
 {
-    match find(store, named) {
-        Some(layer) => say_has(site, holds(store.layers.as_slice(), layer.number, triple)),
-        None => refuse(site, &Refusal::NoLayer(named)),
+    match find_ref(store, at) {
+        Ok(number) => say_has(site, holds(store.layers.as_slice(), number, triple)),
+        Err(refusal) => refuse(site, &refusal),
     }
 }
 
@@ -95,7 +98,7 @@ pub(crate) fn added_at<W: Site>(
     ensures answers { let stepped = step_of store.now (Command.Added named) in
         Answers stepped.told stepped.refused result (W.outside site.old) (W.outside site.new) }
     ensures why { IfErr result IsQueryStop }
-    ensures free { resolve store.now named ≡ None → IfErr result (λ stop. stop ≡ Stop.Memory → ⊥) }
+    ensures free { IsMissing (specs.find_layer store.now named) → IfErr result (λ stop. stop ≡ Stop.Memory → ⊥) }
 {
     match find(store, named) {
         Some(layer) => list_changes(
@@ -119,7 +122,7 @@ pub(crate) fn removed_at<W: Site>(
     ensures answers { let stepped = step_of store.now (Command.Removed named) in
         Answers stepped.told stepped.refused result (W.outside site.old) (W.outside site.new) }
     ensures why { IfErr result IsQueryStop }
-    ensures free { resolve store.now named ≡ None → IfErr result (λ stop. stop ≡ Stop.Memory → ⊥) }
+    ensures free { IsMissing (specs.find_layer store.now named) → IfErr result (λ stop. stop ≡ Stop.Memory → ⊥) }
 {
     match find(store, named) {
         Some(layer) => list_changes(

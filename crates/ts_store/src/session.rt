@@ -12,8 +12,8 @@ use std::alloc::Global;
 use ts_script::Command;
 use ts_site::{Disk, Site};
 
-/// An open folder: its layers in memory, and the newest layer that was made since. After a step that answers a [`Stop`] it
-/// is spent.
+/// An open folder: its layers and labels in memory, the open cursors, and the newest layer that was made since. After a step that answers a
+/// [`Stop`] it is spent.
 #[derive(Drop)]
 pub struct Session {
     alloc: Global,
@@ -23,23 +23,27 @@ pub struct Session {
 
 impl Session {
     ghost use Rattle.ts_store.specs.FolderSays.{FolderSays, IsFirstDamaged};
-    ghost use Rattle.ts_store.specs.Keeps.{Keeps, spent_by};
+    ghost use Rattle.ts_store.specs.Keeps.{Keeps, spent_by, state_in};
     ghost use Rattle.ts_store.specs.Leaves.{LeavesFolder, LeavesState, LeavesTold};
     ghost use Rattle.ts_store.specs.Memory.{NeedsNoFile, TakesNoMemory, is_listing};
+    ghost use Rattle.ts_store.specs.Safe.{IsSafe, IsSettledAt, LeavesSettled};
     ghost use Rattle.ts_store.specs.Stands.{Stands};
-    ghost use Rattle.ts_store.specs.State.{State};
+    ghost use Rattle.ts_store.specs.State.{IsFresh, State};
     ghost use Rattle.ts_store.specs.Stops.{IsOpeningStop, IsStepStop, KeepsTelling, is_disk_fault, is_output_fault, kind_of, spent_after};
     ghost use Rattle.ts_store.specs.Step.{step_of};
     ghost use Rattle.ts_store.specs.declared.stop.Stop.TheVariants.{Damaged, Memory};
 
-    /// Opens a folder: settles what reads, and reads every layer file. `Damaged` exactly where a file is the first that isn't
+    /// Opens a folder: settles what reads, and reads every layer file and then every label file. `Damaged` exactly where a file is the first that isn't
     /// what its name says; else `DiskFault` or `Memory`.
     pub fn open<W: Site>(alloc: Global, site: &mut W) -> Result<Session, Stop>
         ensures says { IsTrue (W.outside site.old).tells_folder
-            → IfOk result (λ session. (state : State) × Keeps session state × (state.last ≡ None) × FolderSays (W.outside site.old).folder state) }
+            → IfOk result (λ session. (state : State) × Keeps session state × IsFresh state × FolderSays (W.outside site.old).folder state) }
         ensures damaged { IsTrue (W.outside site.old).tells_folder
             → IfErr result (λ stop. (name : List ℕ) → stop ≡ Damaged name → IsFirstDamaged (W.outside site.old).folder name) }
-        ensures fresh { IfOk result (λ session. (state : State) × Keeps session state × (state.last ≡ None)) }
+        ensures fresh { IfOk result (λ session. (state : State) × Keeps session state × IsFresh state) }
+
+        // A crash after it leaves just what reads, and one at any moment of it what one before might have left.
+        ensures settles { LeavesSettled result (W.outside site.old) (W.outside site.new) }
         ensures why { IfErr result IsOpeningStop }
         ensures reads { OnlyReads (is_err_and is_disk_fault result) (W.outside site.old) (W.outside site.new) }
     {
@@ -70,11 +74,20 @@ impl Session {
             → LeavesState (FolderSays (W.outside site.new).folder) result state (step_of state command.now).state }
         ensures stands { (state : State) → Keeps self.old state → IsTrue (W.outside site.old).tells_folder → Stands (W.outside site.old).folder state
             → LeavesState (Stands (W.outside site.new).folder) result state (step_of state command.now).state }
+
+        // Where a crash leaves a folder that stands for the state, it leaves at each moment of the step one that stands for this state or
+        // the next one, and for the next one once the whole reply was told.
+        ensures safe { (state : State) → Keeps self.old state → IsSettledAt Stands state (W.outside site.old)
+            → IsSafe Stands state (step_of state command.now) result (W.outside site.old) (W.outside site.new) }
         ensures why { spent_by self.old ≡ None → IfErr result IsStepStop }
 
-        // Only a listing may have said something when memory runs out, and a step that is refused before it loads takes none. One
-        // that needs no file works on the output alone.
+        // A step that is refused works on the output alone, and so changes no file.
+        ensures refused { (state : State) → Keeps self.old state → IsTrue (step_of state command.now).refused → OnlySays (is_err_and is_output_fault result) (W.outside site.old) (W.outside site.new) }
+
+        // Only a listing may have said something when memory runs out, and then all that is in memory is as it was. A step that is
+        // refused before it loads takes none, and one that needs no file works on the output alone.
         ensures untouched { spent_by self.old ≡ None → is_listing command.now ≡ false → result ≡ Err Memory → site.new ≡ site.old }
+        ensures stays { spent_by self.old ≡ None → result ≡ Err Memory → state_in self.new ≡ state_in self.old }
         ensures free { (state : State) → Keeps self.old state → TakesNoMemory state command.now → IfErr result (λ stop. stop ≡ Memory → ⊥) }
         ensures alone { spent_by self.old ≡ None → NeedsNoFile command.now → OnlySays (is_err_and is_output_fault result) (W.outside site.old) (W.outside site.new) }
         ensures spends { spent_by self.old ≡ None → spent_by self.new ≡ spent_after result }

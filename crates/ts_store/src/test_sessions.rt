@@ -5,8 +5,8 @@ ghost use Rattle.ts_site.specs.MemorySite.{memory_calls};
 use crate::Session;
 use std::alloc::Global;
 use std::test::Fail;
-use ts_model::{Pattern, SignedTriple, Triple};
-use ts_nt::read_line;
+use ts_model::{CursorName, LabelName, Pattern, SignedTriple, Term, TermKind, Triple};
+use ts_nt::{object_kind, read_line, read_term};
 use ts_script::{Body, Command, LayerRef, Ref};
 use ts_site::{FileName, MemorySite};
 
@@ -24,7 +24,31 @@ pub enum Asked<'a> {
     Removed(LayerRef),
     Layers,
     Squash(LayerRef),
+    BadCommand(u64),
+    Unfinished(u64),
+    /// `list` of the layer that a label names.
+    ListOf(&'a str),
+    /// `commit` without lines on the layer that a label names.
+    CommitOn(&'a str),
+    Labels,
+    New(&'a str),
+    Get(&'a str),
+    Set(&'a str, u64, Option<LayerRef>),
+    /// `list` of the triples that fit.
+    Select(LayerRef, Words<'a>),
+    Count(LayerRef, Words<'a>),
+    Open(&'a str, LayerRef, Words<'a>),
+    /// `open` over the layer that a label names.
+    OpenOf(&'a str, &'a str),
+    Fetch(&'a str, u32),
+    Close(&'a str),
 }
+
+/// The terms of a pattern, each a term or `*`.
+pub type Words<'a> = (&'a str, &'a str, &'a str);
+
+/// The pattern that each triple fits.
+pub const ANY: Words<'static> = ("*", "*", "*");
 
 /// The newest layer of the run.
 pub const LAST: LayerRef = LayerRef::Last;
@@ -50,16 +74,51 @@ fn body(alloc: Global, text: &str) -> Result<Body, Fail> {
     Ok(Body::of(lines))
 }
 
+/// The name of a label.
+fn named(text: &str) -> Result<LabelName, Fail> {
+    Ok(LabelName::of(text.as_bytes()).ok_or("name")?)
+}
+
+/// The term of a word, and none of `*`.
+fn bound(alloc: Global, word: &str, kind: TermKind) -> Result<Option<Term>, Fail> {
+    if word == "*" {
+        return Ok(None);
+    }
+    Ok(Some(read_term(alloc, word.as_bytes(), kind)?.ok_or("no term")?))
+}
+
+fn pattern(alloc: Global, words: Words<'_>) -> Result<Pattern, Fail> {
+    Ok(Pattern {
+        subject: bound(alloc, words.0, TermKind::Node)?,
+        predicate: bound(alloc, words.1, TermKind::Predicate)?,
+        object: bound(alloc, words.2, object_kind(words.2))?,
+    })
+}
+
+/// The name of a cursor.
+fn cursor(text: &str) -> Result<CursorName, Fail> {
+    Ok(CursorName::of(text.as_bytes()).ok_or("name")?)
+}
+
 /// `list` of all triples.
-fn list(at: LayerRef) -> Command {
+fn list(at: Ref) -> Command {
     Command::Listing {
-        at: Ref::Layer(at),
+        at,
         pattern: Pattern {
             subject: None,
             predicate: None,
             object: None,
         },
     }
+}
+
+/// `open`.
+fn open_over(alloc: Global, name: &str, at: Ref, words: Words<'_>) -> Result<Command, Fail> {
+    Ok(Command::OpenCursor {
+        name: cursor(name)?,
+        at,
+        pattern: pattern(alloc, words)?,
+    })
 }
 
 /// The command itself.
@@ -72,7 +131,7 @@ pub fn command(alloc: Global, asked: Asked<'_>) -> Result<Command, Fail> {
             at: Ref::Layer(at),
             body: body(alloc, text)?,
         }),
-        Asked::List(at) => Ok(list(at)),
+        Asked::List(at) => Ok(list(Ref::Layer(at))),
         Asked::Has(at, line) => Ok(Command::Has {
             at: Ref::Layer(at),
             triple: triple(alloc, line)?,
@@ -81,6 +140,42 @@ pub fn command(alloc: Global, asked: Asked<'_>) -> Result<Command, Fail> {
         Asked::Removed(layer) => Ok(Command::Removed { layer }),
         Asked::Layers => Ok(Command::Layers),
         Asked::Squash(at) => Ok(Command::Squash { at: Ref::Layer(at) }),
+        Asked::BadCommand(line) => Ok(Command::BadCommand { line }),
+        Asked::Unfinished(line) => Ok(Command::Unfinished { line }),
+        Asked::ListOf(label) => Ok(list(Ref::Label(named(label)?))),
+        Asked::CommitOn(label) => Ok(Command::Commit {
+            at: Ref::Label(named(label)?),
+            body: body(alloc, "")?,
+        }),
+        Asked::Labels => Ok(Command::Labels),
+        Asked::New(label) => Ok(Command::LabelNew {
+            name: named(label)?,
+        }),
+        Asked::Get(label) => Ok(Command::LabelGet {
+            name: named(label)?,
+        }),
+        Asked::Set(label, version, to) => Ok(Command::LabelSet {
+            name: named(label)?,
+            version,
+            to,
+        }),
+        Asked::Select(at, words) => Ok(Command::Listing {
+            at: Ref::Layer(at),
+            pattern: pattern(alloc, words)?,
+        }),
+        Asked::Count(at, words) => Ok(Command::Count {
+            at: Ref::Layer(at),
+            pattern: pattern(alloc, words)?,
+        }),
+        Asked::Open(name, at, words) => open_over(alloc, name, Ref::Layer(at), words),
+        Asked::OpenOf(name, label) => open_over(alloc, name, Ref::Label(named(label)?), ANY),
+        Asked::Fetch(name, n) => Ok(Command::Fetch {
+            name: cursor(name)?,
+            n,
+        }),
+        Asked::Close(name) => Ok(Command::CloseCursor {
+            name: cursor(name)?,
+        }),
     }
 }
 
@@ -112,7 +207,7 @@ pub fn open(alloc: Global, site: &mut MemorySite) -> Result<Session, Fail> {
 }
 
 /// Does a command that is to be answered, done or refused.
-fn answered(
+pub fn answered(
     alloc: Global,
     session: &mut Session,
     site: &mut MemorySite,

@@ -1,8 +1,8 @@
-use Rattle.ts_store.proofs.OneHistory.{same_history, not_damaged, same_damaged}
+use Rattle.ts_store.proofs.OneHistory.{same_history, same_labels, not_damaged, same_damaged}
 use Rattle.ts_store.proofs.law.one_history.Goals as goal
 
 pub returns-clause-once : goal.returns-clause-once
-returns-clause-once c = same_history
+returns-clause-once c = λ folder a b one other. (same_history folder a b one other, same_labels folder a b one other)
 
 pub returns-clause-sound : goal.returns-clause-sound
 returns-clause-sound c = not_damaged

@@ -7,7 +7,7 @@ use Rattle.ts_store.specs.Does.{Answers}
 use Rattle.ts_store.specs.Leaves.{AreLines}
 use Rattle.ts_store.specs.Listed.{SaysPrefix}
 use Rattle.ts_store.proofs.AnswerLaws.{output_alone}
-use Rattle.ts_store.proofs.CallLaws.{says_more}
+use Rattle.ts_site.proofs.GoesLemmas.{says_more}
 use Rattle.ts_store.proofs.LayersLaws.{every, is_line, layer_line, layers_said}
 use Rattle.ts_store.proofs.PrefixLaws.{line_failed, line_is_longer, line_said, list_done}
 use Rattle.ts_store.proofs.layers.say_layers.Goals as goal

@@ -1,8 +1,9 @@
 use Rattle.std.proofs.Common.{◌+◌, ◌∙◌, Bool, false, IsTrue, ap, sym, subst, arith, ℕ}
 use Rattle.ts_model.specs.Fits.{fits}
 use Rattle.ts_nt.specs.TripleLine.{triple_line}
-use Rattle.ts_store.proofs.CallLaws.{says_more}
+use Rattle.ts_site.proofs.GoesLemmas.{says_more}
 use Rattle.ts_store.proofs.PrefixLaws.{count_below, count_more, count_same, lines_more, lines_ended, text_same, triples_lent, lent_below, lent_is}
+use Rattle.ts_store.specs.Stops.{is_output_fault}
 use Rattle.ts_store.proofs.listing.lines.Goals as goal
 use Rattle.ts_store.proofs.listing.lines.Goals.{then-fits+in-Ok, else-fits}
 
@@ -50,3 +51,7 @@ loop-triple-preserved g c =
             says = before.says;
           })
     ]
+
+pub returns-in-Err-clause-says : goal.returns-in-Err-clause-says
+returns-in-Err-clause-says g c =
+    says_more (is_output_fault c.in-Err.stop) (g.W.Disk.outside c.args.site.now) (g.W.Disk.outside c.loop-triple.site) (g.W.Disk.outside c.line.new.site) c.loop-triple.invariant.says c.in-Err.ensures.says

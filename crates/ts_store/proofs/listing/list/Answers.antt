@@ -3,7 +3,7 @@ use Rattle.ts_model.specs.Fits.{fits}
 use Rattle.ts_nt.specs.TripleLine.{triple_line}
 use Rattle.ts_script.specs.Replies.{reply_text}
 use Rattle.ts_script.specs.declared.reply.Reply.TheVariants.{Total}
-use Rattle.ts_store.proofs.CallLaws.{says_more}
+use Rattle.ts_site.proofs.GoesLemmas.{says_more}
 use Rattle.ts_store.proofs.PrefixLaws.{list_ended, list_done, line_is_longer, triples_lent}
 use Rattle.ts_store.proofs.listing.list.Goals as goal
 

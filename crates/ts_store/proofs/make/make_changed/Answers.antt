@@ -1,8 +1,8 @@
 use Rattle.std.proofs.Common.{◌≤◌, ◌^◌, ap, subst, ◌∙◌}
 use Rattle.ts_model.specs.History.{History}
 use Rattle.ts_plain.specs.History.{history_of}
+use Rattle.ts_store.specs.Makes.{makes, next_number}
 use Rattle.ts_store.specs.State.{State}
-use Rattle.ts_store.specs.Step.{makes, next_number}
 use Rattle.ts_store.specs.Store.{changed_layer}
 use Rattle.ts_store.proofs.PublishLaws.{does_full, does_nothing, makes_full, makes_tells}
 use Rattle.ts_store.proofs.make.make_changed.Goals as goal
@@ -20,3 +20,6 @@ returns-in-Err-clause-does g c =
     let state = c.args.store.now in
     let layer = changed_layer state.history c.args.parent c.args.body.now in
     does_nothing state (makes state layer) state (g.W.Disk.outside c.args.site.now) (makes_tells state layer)
+
+pub invariant_of-store : goal.invariant_of-store
+invariant_of-store g c = c.make.ensures.sound c.store.inside.labels.labels c.store.invariant

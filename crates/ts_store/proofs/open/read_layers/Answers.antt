@@ -5,8 +5,9 @@ use Rattle.ts_plain.specs.History.{AreHistory}
 use Rattle.ts_plain.proofs.PlaceLaws.{AreHistory-none}
 use Rattle.ts_site.specs.Folder.{Folder}
 use Rattle.ts_store.specs.Opened.{IsReadFrom}
-use Rattle.ts_store.proofs.CallLaws.{reads_more, reads_none}
+use Rattle.ts_site.proofs.GoesLemmas.{reads_more, reads_none}
 use Rattle.ts_store.proofs.OpenLaws.{first_unreadable, first_misplaced, more_numbers, named}
+use Rattle.ts_store.specs.Stops.{is_disk_fault}
 use Rattle.ts_store.proofs.open.read_layers.Goals as goal
 
 pub loop-number-init : goal.loop-number-init
@@ -66,3 +67,15 @@ loop-number-preserved g c =
           subst (All (IsReadFrom folder)) {x = layers ++ layer ∷ []} {y = after} back (All-push (IsReadFrom folder) layers layer (before.says told) (subst (λ (f : Folder). IsReadFrom f layer) (before.reads.folder told) (ok.says told_then)));
       reads = reads_more false (g.W.Disk.outside c.args.site.now) (g.W.Disk.outside c.loop-number.site) (g.W.Disk.outside c.read_layer.new.site) before.reads ok.reads;
     }
+
+pub returns-in-Err-clause-reads : goal.returns-in-Err-clause-reads
+returns-in-Err-clause-reads g c =
+    reads_more (is_disk_fault c.in-Err.stop) (g.W.Disk.outside c.args.site.now) (g.W.Disk.outside c.loop-number.site) (g.W.Disk.outside c.read_layer.new.site) c.loop-number.invariant.reads c.in-Err.ensures.reads
+
+pub returns-then-not-keeps_to_place-clause-reads : goal.returns-then-not-keeps_to_place-clause-reads
+returns-then-not-keeps_to_place-clause-reads g c =
+    reads_more false (g.W.Disk.outside c.args.site.now) (g.W.Disk.outside c.loop-number.site) (g.W.Disk.outside c.read_layer.new.site) c.loop-number.invariant.reads c.in-Ok.ensures.reads
+
+pub returns-in-Err-push-clause-reads : goal.returns-in-Err-push-clause-reads
+returns-in-Err-push-clause-reads g c =
+    reads_more false (g.W.Disk.outside c.args.site.now) (g.W.Disk.outside c.loop-number.site) (g.W.Disk.outside c.read_layer.new.site) c.loop-number.invariant.reads c.in-Ok.ensures.reads

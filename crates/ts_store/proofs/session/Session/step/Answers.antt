@@ -1,9 +1,12 @@
 use Rattle.std.proofs.Common.{subst, sym}
 use Rattle.ts_store.specs.FolderSays.{FolderSays}
 use Rattle.ts_store.specs.Leaves.{LeavesFolder, LeavesState, LeavesTold}
+use Rattle.ts_store.specs.Safe.{IsSafe, IsSettledAt}
 use Rattle.ts_store.specs.Stands.{Stands}
 use Rattle.ts_store.specs.State.{State}
 use Rattle.ts_store.specs.Step.{step_of}
+use Rattle.ts_store.proofs.CountedLaws.{counted_after}
+use Rattle.ts_store.proofs.SafeLaws.{safe_stands}
 use Rattle.ts_store.proofs.StandsLaws.{stands_after}
 use Rattle.ts_store.proofs.session.Session.step.Goals as goal
 
@@ -29,3 +32,14 @@ returns-clause-stands g c = λ state keeps told stands.
     let here = subst (Stands old) (sym keeps.store) stands in
     subst (λ (s : State). LeavesState (Stands new) c.dispatch-done.result s (step_of s c.args.command.now).state) keeps.store
     (stands_after new c.args.self.now.store c.args.command.now here.says.kept here.counted c.dispatch-done.result (c.dispatch-done.ensures.does.tells_state told here.says))
+
+pub returns-clause-safe : goal.returns-clause-safe
+returns-clause-safe g c = λ state keeps at.
+    let asked = c.args.command.now in
+    let old = g.W.Disk.outside c.args.site.now in
+    let new = g.W.Disk.outside c.dispatch-done.new.site in
+    let here : IsSettledAt Stands c.args.self.now.store old = subst (λ (s : State). IsSettledAt Stands s old) (sym keeps.store) at in
+    let says : IsSettledAt FolderSays c.args.self.now.store old = record { honest = here.honest; is = here.is.says; leaves = here.leaves } in
+    subst (λ (s : State). IsSafe Stands s (step_of s asked) c.dispatch-done.result old new) keeps.store
+    (safe_stands c.args.self.now.store (step_of c.args.self.now.store asked) c.dispatch-done.result old new here.is.counted (counted_after c.args.self.now.store asked here.is.says.kept here.is.counted)
+    (c.dispatch-done.ensures.does.safe says))

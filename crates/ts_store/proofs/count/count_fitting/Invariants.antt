@@ -1,0 +1,7 @@
+use Rattle.std.proofs.Common.{◌≡◌, filter, length, take}
+use Rattle.ts_model.specs.Fits.{fits}
+use Rattle.ts_store.proofs.PrefixLaws.{triples_lent}
+use Rattle.ts_store.proofs.count.count_fitting.Given as goal
+
+abbrev pub invariant-loop-triple : goal.invariant-loop-triple
+invariant-loop-triple l = l.count ≡ length (filter (fits l.pattern) (take l.triple-index (triples_lent l.triples)))
