@@ -1,54 +1,40 @@
--- The causes of the stops of a run that read its command.
-use Rattle.std.proofs.Common.{◌≡◌, ◌⊎◌, ℕ, ◌^◌, ◌<◌, Bool, true, IsTrue, List, length, Option, None, Some, Result, Ok, Err, inl, inr, refl, sym, ap, ◌∙◌, subst, arith}
-use Rattle.std.specs.Prelude.{MatchBool}
-use Rattle.ts_script.specs.Commands.{IsNoCommand}
-use Rattle.ts_store.specs.declared.stop.Kind.{Kind}
+-- The causes of stops that hold of every run.
+use Rattle.std.proofs.Common.{◌≡◌, ◌⊎◌, ℕ, ◌^◌, ◌<◌, Bool, IsTrue, List, length, Option, None, Some, Result, Err, inl, inr, refl, subst, arith}
+use Rattle.ts_site.specs.Faults.{CountsFault, IsCalm, Rose, is_err_and}
 use Rattle.ts_store.specs.declared.stop.Stop.{Stop}
 use Rattle.ts_store.specs.declared.stop.Stop.TheVariants.{Usage, Damaged, DiskFault, InputFault, OutputFault, InputLimit, Memory}
-use Rattle.ts_cli.specs.declared.outcome.Outcome.{Outcome}
-use Rattle.ts_site.specs.Faults.{CountsFault, Rose, is_err_and}
-use Rattle.ts_cli.specs.Causes.{LimitCause, UsageCause, is_input_fault, is_stop_and}
-use Rattle.ts_cli.specs.Outcomes.{IsReadingStop, outcome_of, stop_of}
-
--- a command that was read is no stop
-pub read_no_stop : {C : Type 0} (command : C) → (Ok command ≡ Err Usage) ⊎ (Ok command ≡ Err Memory) → ⊥
-read_no_stop command (inl is) = cc
-read_no_stop command (inr is) = cc
+use Rattle.ts_store.specs.FolderSays.{IsFirstDamaged}
+use Rattle.ts_cli.specs.Asked.{AreNoWords, Asking, ReadInput}
+use Rattle.ts_cli.specs.Causes.{HasCause, is_stop_and}
+use Rattle.ts_cli.specs.Change.{Change}
 
 pub some_is : (a b : Stop) → Some a ≡ Some b → a ≡ b
 some_is a b e = cc
 
-module _ (outcome : Outcome) (answer : Result Kind Stop) (is : outcome ≡ outcome_of answer) (later : (stop : Stop) → stop_of answer ≡ Some stop → IsReadingStop stop → ⊥) where
-  not_reading : (stop : Stop) → IsReadingStop stop → outcome.stop ≡ Some stop → ⊥
-  not_reading stop reading wants = later stop (sym (ap (λ (o : Outcome). o.stop) is) ∙ wants) reading
+-- a count that doesn't rise
+pub calm_rose : (old new : ℕ) → IsCalm old new → Rose old new → ⊥
+calm_rose old new calm rose = omega (arith, calm.0, calm.1, rose.0, rose.1)
 
-  pub usage_read : (words : List (List ℕ)) → (IsNoCommand words → ⊥) → UsageCause words outcome.stop
-  usage_read words command = (λ wants. absurd (not_reading Usage tt wants), λ none. absurd (command none))
+-- a stop is counted where its answer is
+pub counts_stop : {T : Type 0} (test : Stop → Bool) (result : Result T Stop) (stop : Stop) (old new : ℕ) → result ≡ Err stop → CountsFault (is_err_and test result) old new
+    → CountsFault (is_stop_and test (Some stop)) old new
+counts_stop test result stop old new is counts = subst (λ (r : Result _ Stop). CountsFault (is_err_and test r) old new) is counts
 
-  pub input_read : (old new : ℕ) → new ≡ old → CountsFault (is_stop_and is_input_fault outcome.stop) old new
-  input_read old new same = by_stop outcome.stop refl
-    where
-      by_stop : (stop : Option Stop) → outcome.stop ≡ stop → CountsFault (is_stop_and is_input_fault stop) old new
-      by_stop None e = same
-      by_stop (Some InputFault) e = absurd (not_reading InputFault tt e)
-      by_stop (Some Usage) e = same
-      by_stop (Some (Damaged name)) e = same
-      by_stop (Some DiskFault) e = same
-      by_stop (Some OutputFault) e = same
-      by_stop (Some InputLimit) e = same
-      by_stop (Some Memory) e = same
-
-  pub limit_read : (reads : Type 0) (tells : Bool) (left left_after : List ℕ) → (IsTrue tells → reads → length left < 2 ^ 40) → LimitCause reads tells left left_after outcome.stop
-  limit_read reads tells left left_after short = (λ wants. absurd (not_reading InputLimit tt wants), λ reading told long after. let below = short told reading in omega (arith, below, long))
-
-  pub fault_is : (test : Stop → Bool) (old new : ℕ) → CountsFault (is_err_and test answer) old new → CountsFault (is_stop_and test outcome.stop) old new
-  fault_is test old new counts = subst (λ (o : Outcome). CountsFault (is_stop_and test o.stop) old new) (sym is) (by_answer answer counts)
-    where
-      by_answer : (given : Result Kind Stop) → CountsFault (is_err_and test given) old new → CountsFault (is_stop_and test (stop_of given)) old new
-      by_answer (Ok kind) h = h
-      by_answer (Err stop) h = h
-
--- where the count rises at a stop
-pub rose_at : {T : Type 0} (test : Stop → Bool) (result : Result T Stop) (stop : Stop) (old new : ℕ) → result ≡ Err stop → test stop ≡ true → CountsFault (is_err_and test result) old new → Rose old new
-rose_at test result stop old new is true_there counts =
-    subst (λ b. MatchBool b (Rose old new) (new ≡ old)) true_there (subst (λ (r : Result _ Stop). CountsFault (is_err_and test r) old new) is counts)
+-- where nothing fails, only memory is wanted
+module _ (s : Change) (a : Asking) (left_after : List ℕ) (faults faults_after : ℕ) where
+  pub complete : (stop : Option Stop) → HasCause s a left_after faults faults_after stop → (AreNoWords a.words → ⊥)
+      → (ReadInput a.words → IsTrue a.tells × (length a.left < 2 ^ 40)) → IsTrue s.before.tells_folder → ((name : List ℕ) → IsFirstDamaged s.before.folder name → ⊥)
+      → IsCalm s.before.disk_faults s.after.disk_faults → IsCalm s.before.say_faults s.after.say_faults → IsCalm faults faults_after
+      → (stop ≡ None) ⊎ (stop ≡ Some Memory)
+  complete None cause command short tells sound disk output input = inl refl
+  complete (Some Memory) cause command short tells sound disk output input = inr refl
+  complete (Some Usage) cause command short tells sound disk output input = absurd (command (cause.usage.0 refl))
+  complete (Some (Damaged name)) cause command short tells sound disk output input = absurd (sound name ((cause.damaged tells name).0 refl))
+  complete (Some DiskFault) cause command short tells sound disk output input = absurd (calm_rose s.before.disk_faults s.after.disk_faults disk cause.disk)
+  complete (Some OutputFault) cause command short tells sound disk output input = absurd (calm_rose s.before.say_faults s.after.say_faults output cause.output)
+  complete (Some InputFault) cause command short tells sound disk output input = absurd (calm_rose faults faults_after input cause.input)
+  complete (Some InputLimit) cause command short tells sound disk output input =
+      let limit = cause.limit.0 refl in
+      let reads = short limit.0 in
+      let long = limit.1 reads.0 in
+      absurd (omega (arith, long.0, reads.1))

@@ -1,6 +1,10 @@
 mod CauseLaws
-mod EndsLemmas
+mod CommandsLemmas
+mod CrashLaws
 mod HeadlineLaws
 mod InputLemmas
-mod StoppedLaws
+mod SafeLaws
+mod ScriptLaws
+mod SingleLaws
 mod SquashRows
+mod StepsLemmas

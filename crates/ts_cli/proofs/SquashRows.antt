@@ -1,6 +1,6 @@
 -- A squash drops a term that no triple of the layer has: layer 1 has `<a> <p> <b>` and `<c> <p> <b>`, layer 2 removes the latter, and
 -- layer 3 is the squash of layer 2.
-use Rattle.std.proofs.Common.{◌≡◌, ℕ, Bool, true, false, not, ◌&&◌, ◌||◌, List, [], ◌∷◌, reverse, Option, Some, None, refl, sym, ap, ◌∙◌, subst, true≢false, cond}
+use Rattle.std.proofs.Common.{◌≡◌, ℕ, Bool, true, false, not, ◌&&◌, ◌||◌, List, [], ◌∷◌, reverse, Option, Some, None, refl, sym, ap, ◌∙◌, subst, true≢false}
 use Rattle.std.specs.Option.{option_map, option_and_then}
 use Rattle.std.specs.List.{list_any}
 use Rattle.std.specs.List.Sorted.{IsStrictlySortedBy}
@@ -16,7 +16,7 @@ use Rattle.ts_model.specs.History.{LayerRecord, History, set_or_none, additions_
 use Rattle.ts_model.specs.Birth.{has_term, mentions, first_place, birth_of}
 use Rattle.ts_model.proofs.SetLaws.{contains-from_list, same_set}
 use Rattle.ts_model.proofs.SetAlgebra.{contains-union, contains-difference, members-from_rising}
-use Rattle.ts_store.specs.Step.{squashed_layer}
+use Rattle.ts_store.specs.Makes.{squashed_layer}
 
 abbrev is_among : List TextTriple → TextTriple → Bool
 is_among triples q = list_any (eq_by_cmp triple_cmp q) triples

@@ -1,47 +1,102 @@
 -- What a run leaves of a folder that is told, and of the output.
-use Rattle.std.specs.Prelude.{◌≡◌, ◌⊎◌, ℕ, List, Bool, IsTrue, None, Result, Ok, Err, IfOk}
-use Rattle.ts_script.specs.Lines.{lines_of}
-use Rattle.ts_script.specs.Commands.{IsCommand}
+use Rattle.std.specs.Prelude.{◌≡◌, ◌⊎◌, ℕ, if◌then◌else◌, List, [], ◌∷◌, ◌++◌, length, IsTrue, Option, None, Some, MatchOption, Result, Ok, Err, IfOk}
+use Rattle.ts_site.specs.Crash.{AddsNone, settled}
+use Rattle.ts_site.specs.Outside.{Outside}
 use Rattle.ts_script.specs.declared.command.Command.{Command}
 use Rattle.ts_store.specs.declared.stop.Kind.{Kind}
 use Rattle.ts_store.specs.declared.stop.Stop.{Stop}
 use Rattle.ts_store.specs.declared.stop.Stop.TheVariants.{Usage, Damaged, DiskFault, InputFault, OutputFault, InputLimit, Memory}
 use Rattle.ts_store.specs.FolderSays.{FolderSays}
 use Rattle.ts_store.specs.Leaves.{LeavesFolder, LeavesState, LeavesTold}
+use Rattle.ts_store.specs.Safe.{IsSafe, IsSettledAt}
 use Rattle.ts_store.specs.Stands.{Stands}
-use Rattle.ts_store.specs.State.{State}
+use Rattle.ts_store.specs.State.{IsFresh, State}
 use Rattle.ts_store.specs.Step.{step_of}
-use Rattle.ts_store.specs.Stops.{kind_of}
-use Rattle.ts_cli.specs.Change.{Change, LeavesAll}
+use Rattle.ts_store.specs.Steps.{after, any_refused}
+use Rattle.ts_store.specs.Stops.{IsStepStop, KeepsTelling, kind_of}
+use Rattle.ts_cli.specs.declared.outcome.Outcome.{Outcome}
+use Rattle.ts_cli.specs.Asked.{AreCommands, AreGiven, AreRun, Asking}
+use Rattle.ts_cli.specs.Change.{Change, LeavesAll, change_of}
+use Rattle.ts_cli.specs.Outcomes.{stop_status, stopped_outcome}
 
--- the words, and some lines where they have a body, are this command; where the input is told these are its lines
-abbrev pub Asks : List (List ℕ) → Bool → List ℕ → Command → Type 0
-Asks words tells left asked = (lines : List (List ℕ)) × IsCommand words 0 lines asked × (IsTrue tells → lines ≡ lines_of left)
-
--- The folder tells the state, in which this run has made no layer yet, and the step of the command from it was answered so: the
--- answer is that of the step, its reply was said whole, and the folder follows the state and tells, or stands for, the one after
--- it. What a stop leaves of the reply, the folder and the state is said by the same tables.
-pub record StepsFrom (s : Change) (asked : Command) (answer : Result Kind Stop) (state : State) : Type 0 where
-  pub fresh : state.last ≡ None
+-- The folder tells the state, and the step of the command from it was answered so: the answer is that of the step, its reply was
+-- said whole, and the folder follows the state and tells, or stands for, the one after it. What a stop leaves of the reply, the
+-- folder and the state is said by the same tables. Where a crash leaves a folder that stands for the state, each moment of the step is safe.
+pub record StepsFrom (s : Change) (state : State) (asked : Command) (answer : Result Kind Stop) : Type 0 where
   pub says : FolderSays s.before.folder state
   pub kind : IfOk answer (λ kind. kind ≡ kind_of (step_of state asked).refused)
   pub told : IsTrue s.before.tells_output → LeavesTold answer (step_of state asked).told s.before.told s.after.told
   pub folder : LeavesFolder answer state (step_of state asked).state s.before.folder s.after.folder
   pub says_after : LeavesState (FolderSays s.after.folder) answer state (step_of state asked).state
   pub stands_after : Stands s.before.folder state → LeavesState (Stands s.after.folder) answer state (step_of state asked).state
+  pub telling : KeepsTelling s.before s.after
+  pub safe : IsSettledAt Stands state s.before → IsSafe Stands state (step_of state asked) answer s.before s.after
 
--- a command that is asked for came to its step
-abbrev pub ComesToStep : Change → (Command → Type 0) → Result Kind Stop → Type 0
-ComesToStep s Asked answer = (asked : Command) × Asked asked × (state : State) × StepsFrom s asked answer state
+-- the commands were done one after another, each from the state that those before it left
+abbrev pub AreDone : Change → State → List Command → Type 0
+AreDone s state [] = LeavesAll s
+AreDone s state (asked ∷ commands) =
+    (middle : Outside) × (kind : Kind) × StepsFrom (change_of s.before middle) state asked (Ok kind)
+    × AreDone (change_of middle s.after) (step_of state asked).state commands
 
--- Where there is an answer, and where the output failed, the run came to its step. Where the disk failed or memory ran out it may
--- have. Each other stop comes before the step.
-abbrev pub Ends : Change → (Command → Type 0) → Result Kind Stop → Type 0
-Ends s Asked (Ok kind) = ComesToStep s Asked (Ok kind)
-Ends s Asked (Err OutputFault) = ComesToStep s Asked (Err OutputFault)
-Ends s Asked (Err DiskFault) = LeavesAll s ⊎ ComesToStep s Asked (Err DiskFault)
-Ends s Asked (Err Memory) = LeavesAll s ⊎ ComesToStep s Asked (Err Memory)
-Ends s Asked (Err Usage) = LeavesAll s
-Ends s Asked (Err (Damaged name)) = LeavesAll s
-Ends s Asked (Err InputFault) = LeavesAll s
-Ends s Asked (Err InputLimit) = LeavesAll s
+-- the stops between two commands of a script
+abbrev pub IsBetween : Stop → Type 0
+IsBetween InputFault = Unit {0}
+IsBetween InputLimit = Unit {0}
+IsBetween Memory = Unit {0}
+IsBetween Usage = ⊥
+IsBetween (Damaged name) = ⊥
+IsBetween DiskFault = ⊥
+IsBetween OutputFault = ⊥
+
+-- How the run ended behind the commands that were done: they are all that were asked for; or a script was read no further; or the
+-- step of one more command came to a stop.
+abbrev pub EndsAfter : Change → Asking → State → List Command → Option Stop → Type 0
+EndsAfter s a state done None = AreGiven a done × (IsTrue a.tells → AreCommands a.words a.left done) × LeavesAll s
+EndsAfter s a state done (Some stop) =
+    (AreRun a.words × IsBetween stop × AreGiven a done × LeavesAll s)
+    ⊎ ((asked : Command) × AreGiven a (done ++ asked ∷ []) × IsStepStop stop × StepsFrom s (after state done (length done)) asked (Err stop))
+
+-- The folder was opened: all is as it was, and a crash leaves just what reads.
+pub record Opens (before opened : Outside) : Type 0 where
+  pub all : LeavesAll (change_of before opened)
+  pub settles : IsTrue before.tells_images → AddsNone opened.crash (settled before.folder)
+
+-- The open folder tells the state, in which this run has opened no cursor and made no layer yet. These commands were done, and the run ended
+-- behind them.
+pub record ComesTo (s : Change) (a : Asking) (outcome : Outcome) (state : State) (done : List Command) : Type 0 where
+  pub fresh : IsFresh state
+  pub says : FolderSays s.before.folder state
+  pub count : outcome.done ≡ length done
+  pub status : MatchOption outcome.stop (outcome.status ≡ (if any_refused state done then 1 else 0)) (λ stop. outcome.status ≡ stop_status stop)
+  pub middle : Outside
+  pub steps : AreDone (change_of s.before middle) state done
+  pub ends : EndsAfter (change_of middle s.after) a state done outcome.stop
+
+-- the folder tells the state; the run opened it, and then came to these commands
+pub record OpensAndComes (s : Change) (a : Asking) (outcome : Outcome) (state : State) (done : List Command) : Type 0 where
+  pub says : FolderSays s.before.folder state
+  pub opened : Outside
+  pub opens : Opens s.before opened
+  pub comes : ComesTo (change_of opened s.after) a outcome state done
+
+-- The stops before the first command is done: a script is read only once the folder is open.
+abbrev pub IsEarly : List (List ℕ) → Stop → Type 0
+IsEarly words Usage = AreRun words → ⊥
+IsEarly words InputFault = AreRun words → ⊥
+IsEarly words InputLimit = AreRun words → ⊥
+IsEarly words (Damaged name) = Unit {0}
+IsEarly words DiskFault = Unit {0}
+IsEarly words Memory = Unit {0}
+IsEarly words OutputFault = ⊥
+
+-- the run stopped so, and left all as it was
+pub record StopsEarly (s : Change) (words : List (List ℕ)) (outcome : Outcome) : Type 0 where
+  pub stop : Stop
+  pub outcome_is : outcome ≡ stopped_outcome 0 stop
+  pub early : IsEarly words stop
+  pub all : LeavesAll s
+
+-- the run left all as it was, or came to the commands that are asked for
+abbrev pub Ends : Change → Asking → Outcome → Type 0
+Ends s a outcome = StopsEarly s a.words outcome ⊎ ((state : State) × (done : List Command) × OpensAndComes s a outcome state done)

@@ -1,8 +1,6 @@
 -- What a run tells and what its folder stands for, by the plain history.
-use Rattle.std.specs.Prelude.{◌≡◌, ◌⊎◌, ℕ, ◌+◌, if◌then◌else◌, List, [], ◌∷◌, ◌++◌, length, take, MatchOption}
+use Rattle.std.specs.Prelude.{◌≡◌, ◌≤◌, ◌⊎◌, ℕ, ◌+◌, if◌then◌else◌, List, ◌++◌, length, take, MatchOption}
 use Rattle.ts_site.specs.Folder.{Folder}
-use Rattle.ts_script.specs.Lines.{lines_of}
-use Rattle.ts_script.specs.Commands.{IsCommand}
 use Rattle.ts_script.specs.declared.command.Command.{Command}
 use Rattle.ts_store.specs.declared.stop.Stop.{Stop}
 use Rattle.ts_store.specs.declared.stop.Stop.TheVariants.{DiskFault, OutputFault}
@@ -11,17 +9,13 @@ use Rattle.ts_store.specs.State.{State}
 use Rattle.ts_store.specs.Steps.{after, answers, answer_at, any_refused}
 use Rattle.ts_cli.specs.declared.outcome.Outcome.{Outcome}
 
--- the commands that words and an input ask for: the one that the words are, with the lines of the input as its body where it has one
-abbrev pub AreCommands : List (List ℕ) → List ℕ → List Command → Type 0
-AreCommands words input commands = (asked : Command) × IsCommand words 0 (lines_of input) asked × (commands ≡ asked ∷ [])
-
 -- What was told: the replies to the commands that were done, and after a stop a front of the next one. Without a stop all were done, and
 -- the status is 0 exactly where none was refused, else 1.
 abbrev pub TellsReplies : Outcome → State → List Command → List ℕ → List ℕ → Type 0
 TellsReplies outcome state commands old new =
     MatchOption outcome.stop
     ((outcome.done ≡ length commands) × (new ≡ old ++ answers state commands outcome.done) × (outcome.status ≡ (if any_refused state commands then 1 else 0)))
-    (λ stop. (n : ℕ) × (new ≡ old ++ (answers state commands outcome.done ++ take n (answer_at state commands outcome.done))))
+    (λ stop. (outcome.done ≤ length commands) × (n : ℕ) × (new ≡ old ++ (answers state commands outcome.done ++ take n (answer_at state commands outcome.done))))
 
 -- the folder stands for the state after the commands that were done; where the disk or the output failed, maybe after one more
 abbrev pub StandsAfterStop : Stop → Folder → State → List Command → ℕ → Type 0

@@ -1,6 +1,11 @@
+pub mod Asked
 pub mod Causes
 pub mod Change
+pub mod Crash
 pub mod Ends
 pub mod Headline
 pub mod Outcomes
+pub mod Script
+pub mod Single
 pub mod StopText
+pub mod Tally

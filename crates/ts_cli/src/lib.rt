@@ -16,6 +16,9 @@ mod fault_tests;
 mod layer_tests;
 mod outcome;
 mod running;
+mod script;
+mod single;
+mod tally;
 #[cfg(test)]
 mod test_runs;
 #[cfg(test)]

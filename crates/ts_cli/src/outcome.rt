@@ -1,11 +1,11 @@
 // How a run ends.
-ghost use Rattle.std.specs.Prelude.{◌≡◌, Err, Ok};
-ghost use Rattle.ts_cli.specs.Outcomes.{outcome_of, stop_status};
+ghost use Rattle.std.specs.Prelude.{◌≡◌};
+ghost use Rattle.ts_cli.specs.Outcomes.{ended_outcome, stopped_outcome};
 ghost use Rattle.ts_cli.specs.StopText.{stop_text};
 
 use ts_script::ReplyLine;
 use ts_site::FileName;
-use ts_store::{Kind, Stop};
+use ts_store::Stop;
 
 /// What a run came to: its exit status, how many steps' replies were told whole by calls that all succeeded, and why it
 /// stopped, if it did.
@@ -16,23 +16,20 @@ pub struct Outcome {
     pub stop: Option<Stop>,
 }
 
-/// A run whose one step was answered.
-pub(crate) fn answered(kind: Kind) -> Outcome
-    ensures { result ≡ outcome_of (Ok kind) }
+/// A run that did so many commands, one of which was refused or none, and was asked for no more.
+pub(crate) fn ended(done: u128, refused: bool) -> Outcome
+    ensures { result ≡ ended_outcome done refused }
 {
     Outcome {
-        status: match kind {
-            Kind::Done => 0,
-            Kind::Refused => 1,
-        },
-        done: 1,
+        status: if refused { 1 } else { 0 },
+        done,
         stop: None,
     }
 }
 
-/// A run that a stop ended: no step is counted.
-pub fn stopped(stop: Stop) -> Outcome
-    ensures { result ≡ outcome_of (Err stop) }
+/// A run that a stop ended behind so many commands.
+pub(crate) fn stopped_after(done: u128, stop: Stop) -> Outcome
+    ensures { result ≡ stopped_outcome done stop }
 {
     Outcome {
         status: match &stop {
@@ -44,9 +41,16 @@ pub fn stopped(stop: Stop) -> Outcome
             Stop::Memory => 7,
             Stop::InputLimit => 8,
         },
-        done: 0,
+        done,
         stop: Some(stop),
     }
+}
+
+/// A run that a stop ended before its first command was done.
+pub fn stopped(stop: Stop) -> Outcome
+    ensures { result ≡ stopped_outcome 0 stop }
+{
+    stopped_after(0, stop)
 }
 
 /// A line for the standard error, in a fixed array.

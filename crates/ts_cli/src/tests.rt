@@ -3,7 +3,7 @@ use crate::test_runs::{file, run_from, run_words};
 use std::alloc::Global;
 use std::test::Fail;
 use ts_model::TERM_LIMIT;
-use ts_site::{CallKind, FaultKind, FileName, MemorySite, MemorySource};
+use ts_site::{MemorySite, MemorySource};
 
 #[test]
 fn the_first_layer_is_made(rt: HostRuntime) -> Result<(), Fail> {
@@ -366,88 +366,6 @@ fn a_node_is_listed_before_a_value(rt: HostRuntime) -> Result<(), Fail> {
         )?
     );
     assert!(rt; lists(alloc, input, b"<q> <q> <q> .\n<q> <q> \"<q>\" .\ntotal 2\n")?);
-    Ok(())
-}
-
-#[test]
-fn nine_nodes_are_listed(rt: HostRuntime) -> Result<(), Fail> {
-    assert!(rt;
-        lists(
-            rt.alloc(),
-            b"<n9> <p> <o> .\n<n8> <p> <o> .\n<n7> <p> <o> .\n<n6> <p> <o> .\n<n5> <p> <o> .\n<n4> <p> <o> .\n<n3> <p> <o> .\n<n2> <p> <o> .\n<n1> <p> <o> .\n",
-            b"<n1> <p> <o> .\n<n2> <p> <o> .\n<n3> <p> <o> .\n<n4> <p> <o> .\n<n5> <p> <o> .\n<n6> <p> <o> .\n<n7> <p> <o> .\n<n8> <p> <o> .\n<n9> <p> <o> .\ntotal 9\n"
-        )?
-    );
-    Ok(())
-}
-
-#[test]
-fn terms_are_listed_in_canonical_spelling(rt: HostRuntime) -> Result<(), Fail> {
-    let alloc = rt.alloc();
-    assert!(rt;
-        lists(
-            alloc,
-            b"<a\\u0062> <p> _:b.c.\n<a\\u0020b> <p> \"\\U0001F600\\t\" .\n",
-            b"<a\\u0020b> <p> \"\xF0\x9F\x98\x80\t\" .\n<ab> <p> _:b.c .\ntotal 2\n"
-        )?
-    );
-    assert!(rt;
-        lists(
-            alloc,
-            b"<s> <p> \"1\"^^<http://www.w3.org/2001/XMLSchema#string> .\n",
-            b"<s> <p> \"1\" .\ntotal 1\n"
-        )?
-    );
-    Ok(())
-}
-
-#[test]
-fn an_output_that_fails_leaves_the_layer(rt: HostRuntime) -> Result<(), Fail> {
-    let alloc = rt.alloc();
-    let mut site = MemorySite::new(alloc, 20, 1000)?;
-    site.fail(CallKind::Say, 1, FaultKind::Nothing)?;
-    let outcome = run_words(alloc, &mut site, &["base"], b"<a> <p> <b> .\n")?;
-    assert!(rt; matches!(&outcome.stop, Some(Stop::OutputFault)));
-    assert_eq!(rt; outcome.status, 6);
-    assert_eq!(rt; outcome.done, 0);
-    assert_eq!(rt; site.told(), b"".as_slice());
-    assert_eq!(rt;
-        file(&site, b"00000001.layer")?,
-        Some(b"plain 00000001 none\n+ <a> <p> <b> .\n".as_slice())
-    );
-    Ok(())
-}
-
-#[test]
-fn an_input_that_fails_changes_nothing(rt: HostRuntime) -> Result<(), Fail> {
-    let alloc = rt.alloc();
-    let mut site = MemorySite::new(alloc, 20, 1000)?;
-    let mut source = MemorySource::new(alloc, b"<a> <p> <b> .\n")?;
-    source.fail(2);
-    let words = vec![in alloc; String::from_str(alloc, "base")?]?;
-    let outcome = run(alloc, &words, &mut site, &mut source);
-    assert!(rt; matches!(&outcome.stop, Some(Stop::InputFault)));
-    assert_eq!(rt; outcome.status, 5);
-    assert_eq!(rt; outcome.done, 0);
-    assert_eq!(rt; site.room(), (20, 1000));
-    Ok(())
-}
-
-#[test]
-fn a_damaged_file_is_named(rt: HostRuntime) -> Result<(), Fail> {
-    let alloc = rt.alloc();
-    let mut site = MemorySite::new(alloc, 20, 1000)?;
-    let name = FileName::of(b"00000001.layer").ok_or("name")?;
-    site.put_file(&name, b"plain 00000001 none\n+ <a> <p> <b> .")?;
-    let outcome = run_words(alloc, &mut site, &["list", "00000001"], b"")?;
-    assert_eq!(rt; outcome.status, 3);
-    assert_eq!(rt; outcome.done, 0);
-    let stop = outcome.stop.as_ref().ok_or("stop")?;
-    assert_eq!(rt;
-        stop_line(stop).bytes(),
-        b"tstore: damaged 00000001.layer\n".as_slice()
-    );
-    assert_eq!(rt; site.told(), b"".as_slice());
     Ok(())
 }
 

@@ -2,8 +2,8 @@ use Rattle.std.proofs.Common.{List, ℕ, map, string_bytes, sym, ◌∙◌, subs
 use Rattle.ts_script.specs.Lines.{lines_of}
 use Rattle.ts_script.specs.Commands.{IsCommand, IsStopFor}
 use Rattle.ts_cli.proofs.InputLemmas.{asks_of, over_limit}
-use Rattle.ts_cli.proofs.StoppedLaws.{awaits_none}
-use Rattle.ts_cli.proofs.running.read_command.Goals as goal
+use Rattle.ts_cli.proofs.SingleLaws.{awaits_none}
+use Rattle.ts_cli.proofs.single.read_command.Goals as goal
 
 pub returns-in-Err-Limit-clause-limit : goal.returns-in-Err-Limit-clause-limit
 returns-in-Err-Limit-clause-limit g c = λ told is.

@@ -1,0 +1,262 @@
+-- A crash at any moment of a run leaves a folder that stands for a prefix of its commands.
+use Rattle.std.proofs.Common.{◌≡◌, ◌⊎◌, ℕ, zero, suc, ◌+◌, ◌<◌, ◌≤◌, Bool, true, false, nat_lt, List, [], ◌∷◌, ◌++◌, length, take, IsTrue, Option, None, Some, Result, Ok, Err, inl, inr, refl, sym, ap, ◌∙◌, subst, arith, append-nil, append_assoc, length-append, get_or, add-one}
+use Rattle.std.proofs.lemmas.Bool.{ltb-false, ltb-true}
+use Rattle.std.proofs.lemmas.List.{take_all}
+use Rattle.ts_site.specs.Crash.{AddsNone, CrashState, EachImage, IsImage}
+use Rattle.ts_site.specs.Folder.{Folder}
+use Rattle.ts_site.specs.Moments.{GoesOn, Moment}
+use Rattle.ts_site.specs.Outside.{IsHonest, Outside, moments_of}
+use Rattle.ts_site.proofs.GoesLemmas.{goes_more, goes_none, goes_weaker}
+use Rattle.ts_script.specs.declared.command.Command.{Command}
+use Rattle.ts_store.specs.declared.stop.Kind.{Kind}
+use Rattle.ts_store.specs.declared.stop.Stop.{Stop}
+use Rattle.ts_store.specs.FolderSays.{FolderSays}
+use Rattle.ts_store.specs.Safe.{IsSafe, IsSettledAt, IsStepMoment}
+use Rattle.ts_store.specs.Stands.{Stands}
+use Rattle.ts_store.specs.State.{IsFresh, State}
+use Rattle.ts_store.specs.Step.{step_of}
+use Rattle.ts_store.specs.Steps.{after, answer_at, answers}
+use Rattle.ts_store.proofs.SafeLaws.{agrees_stands}
+use Rattle.ts_store.proofs.SettledLaws.{leaves_settled, settled_stands}
+use Rattle.ts_cli.specs.Asked.{AreCommands, Asking}
+use Rattle.ts_cli.specs.Change.{Change, LeavesAll, change_of}
+use Rattle.ts_cli.specs.Crash.{IsOpeningMoment, IsPrefixMoment, LeavesAfter, LeavesPrefixes, TellsOpened}
+use Rattle.ts_cli.specs.Ends.{AreDone, ComesTo, Ends, EndsAfter, IsEarly, Opens, OpensAndComes, StepsFrom}
+use Rattle.ts_cli.specs.Outcomes.{stopped_outcome}
+use Rattle.ts_cli.specs.declared.outcome.Outcome.{Outcome}
+use Rattle.ts_cli.proofs.CommandsLemmas.{after_front, after_next, after_none, answers_none}
+use Rattle.ts_cli.proofs.HeadlineLaws.{all_same, given_first, same_state}
+use Rattle.ts_cli.proofs.SafeLaws.{still_honest, still_settled}
+use Rattle.ts_store.proofs.TellsLaws.{step_tells}
+
+-- ---- between two steps
+
+proper_none : (state : State) (commands : List Command) → (0 ≡ length commands) ⊎ (0 < length (answer_at state commands 0))
+proper_none state [] = inl refl
+proper_none state (asked ∷ rest) = inr (step_tells state asked)
+
+module _ (a b : Outside) (state : State) (commands : List Command) (at : IsSettledAt Stands state a) (all : LeavesAll (change_of a b)) where
+  still_moment : (moment : Moment) → AddsNone moment.crash a.crash × (moment.told ≡ a.told) → IsPrefixMoment state commands a.told moment
+  still_moment moment (adds, same) = record {
+    done = 0;
+    within = omega arith;
+    count = 0;
+    front = same ∙ sym (append-nil a.told) ∙ ap (λ (l : List ℕ). a.told ++ l) (sym (append-nil (answers state commands 0) ∙ answers_none state commands));
+    proper = proper_none state commands;
+    leaves = λ image here. inl (subst (λ (s : State). Stands image s) (sym (after_none state commands)) (settled_stands a state moment.crash at adds image here));
+  }
+
+  still_prefix : GoesOn (IsPrefixMoment state commands a.told) (moments_of a) (moments_of b)
+  still_prefix = goes_weaker (λ moment. AddsNone moment.crash a.crash × (moment.told ≡ a.told)) (IsPrefixMoment state commands a.told) (moments_of a) (moments_of b) still_moment (all.images.moments at.honest.images)
+
+-- ---- the first step
+
+module _ (state : State) (asked : Command) (rest : List Command) where
+  abbrev next : State
+  next = (step_of state asked).state
+
+  abbrev text : List ℕ
+  text = (step_of state asked).told
+
+  proper_one : (suc zero ≡ length (asked ∷ rest)) ⊎ (0 < length (answer_at state (asked ∷ rest) (suc zero)))
+  proper_one = by_rest (proper_none next rest)
+    where
+      by_rest : (0 ≡ length rest) ⊎ (0 < length (answer_at next rest 0)) → (suc zero ≡ length (asked ∷ rest)) ⊎ (0 < length (answer_at state (asked ∷ rest) (suc zero)))
+      by_rest (inl none) = inl (ap suc none)
+      by_rest (inr some) = inr some
+
+  step_moment : (told : List ℕ) (moment : Moment) → IsStepMoment Stands state (step_of state asked) told moment → IsPrefixMoment state (asked ∷ rest) told moment
+  step_moment told moment is = by_count (nat_lt is.count (length text)) refl
+    where
+      after_one : (image : Folder) → Stands image state ⊎ Stands image next → Stands image (after state (asked ∷ rest) zero) ⊎ Stands image (after state (asked ∷ rest) (zero + 1))
+      after_one image (inl stands) = inl stands
+      after_one image (inr stands) = inr (subst (λ (s : State). Stands image s) (sym (after_none next rest)) stands)
+
+      by_count : (less : Bool) → nat_lt is.count (length text) ≡ less → IsPrefixMoment state (asked ∷ rest) told moment
+      by_count true e = record {
+        done = zero;
+        within = omega arith;
+        count = is.count;
+        front = is.front;
+        proper = inr (ltb-true is.count (length text) e);
+        leaves = λ image here. after_one image (is.either image here);
+      }
+      by_count false e =
+          let all = ltb-false is.count (length text) e in
+          record {
+            done = suc zero;
+            within = omega arith;
+            count = 0;
+            front =
+                is.front
+                ∙ ap (λ (l : List ℕ). told ++ l)
+                (take_all is.count text all ∙ sym (append-nil text) ∙ ap (λ (l : List ℕ). text ++ l) (sym (answers_none next rest)) ∙ sym (append-nil (text ++ answers next rest 0)));
+            proper = proper_one;
+            leaves = λ image here. inl (subst (λ (s : State). Stands image s) (sym (after_none next rest)) (is.whole all image here));
+          }
+
+  step_prefix : (a b : Outside) (answer : Result Kind Stop) → IsSafe Stands state (step_of state asked) answer a b → GoesOn (IsPrefixMoment state (asked ∷ rest) a.told) (moments_of a) (moments_of b)
+  step_prefix a b answer safe =
+      goes_weaker (IsStepMoment Stands state (step_of state asked) a.told) (IsPrefixMoment state (asked ∷ rest) a.told) (moments_of a) (moments_of b) (step_moment a.told) safe.moments
+
+  -- moments of the later steps
+  later_moment : (told told_then : List ℕ) → told_then ≡ told ++ text → (moment : Moment) → IsPrefixMoment next rest told_then moment → IsPrefixMoment state (asked ∷ rest) told moment
+  later_moment told told_then was moment is =
+      let more = answers next rest is.done in
+      let front = take is.count (answer_at next rest is.done) in
+      record {
+        done = suc is.done;
+        within = omega (arith, is.within);
+        count = is.count;
+        front =
+            is.front
+            ∙ ap (λ (l : List ℕ). l ++ (more ++ front)) was
+            ∙ append_assoc told text (more ++ front)
+            ∙ ap (λ (l : List ℕ). told ++ l) (sym (append_assoc text more front));
+        proper = by_proper is.proper;
+        leaves = λ image here. by_side image (is.leaves image here);
+      }
+    where
+      by_proper : (is.done ≡ length rest) ⊎ (is.count < length (answer_at next rest is.done)) → (suc is.done ≡ length (asked ∷ rest)) ⊎ (is.count < length (answer_at state (asked ∷ rest) (suc is.done)))
+      by_proper (inl all) = inl (ap suc all)
+      by_proper (inr less) = inr less
+
+      one_more : suc (is.done + 1) ≡ suc is.done + 1
+      one_more = omega arith
+
+      by_side : (image : Folder) → Stands image (after next rest is.done) ⊎ Stands image (after next rest (is.done + 1)) → Stands image (after state (asked ∷ rest) (suc is.done)) ⊎ Stands image (after state (asked ∷ rest) (suc is.done + 1))
+      by_side image (inl stands) = inl stands
+      by_side image (inr stands) = inr (subst (λ (n : ℕ). Stands image (after state (asked ∷ rest) n)) one_more stands)
+
+-- ---- the steps that were done
+
+stepped_at : (a b : Outside) (state : State) (asked : Command) (kind : Kind) → StepsFrom (change_of a b) state asked (Ok kind) → IsSettledAt Stands state a → IsSettledAt Stands (step_of state asked).state b
+stepped_at a b state asked kind one at = let safe = one.safe at in record { honest = safe.honest; is = one.stands_after at.is; leaves = safe.ok }
+
+done_settled : (a b : Outside) (state : State) (done : List Command) → IsSettledAt Stands state a → AreDone (change_of a b) state done → IsSettledAt Stands (after state done (length done)) b
+done_settled a b state [] at all = still_settled a b state all at
+done_settled a b state (asked ∷ done) at (middle, kind, one, rest) = done_settled middle b (step_of state asked).state done (stepped_at a middle state asked kind one at) rest
+
+done_prefix : (a b c : Outside) (state : State) (done more : List Command) → IsSettledAt Stands state a → AreDone (change_of a b) state done
+    → GoesOn (IsPrefixMoment (after state done (length done)) more b.told) (moments_of b) (moments_of c) → GoesOn (IsPrefixMoment state (done ++ more) a.told) (moments_of a) (moments_of c)
+done_prefix a b c state [] more at all tail =
+    goes_more (IsPrefixMoment state more a.told) (moments_of a) (moments_of b) (moments_of c) (still_prefix a b state more at all)
+    (subst (λ (told : List ℕ). GoesOn (IsPrefixMoment state more told) (moments_of b) (moments_of c)) all.told tail)
+done_prefix a b c state (asked ∷ done) more at (middle, kind, one, rest) tail =
+    let next = (step_of state asked).state in
+    goes_more (IsPrefixMoment state (asked ∷ done ++ more) a.told) (moments_of a) (moments_of middle) (moments_of c) (step_prefix state asked (done ++ more) a middle (Ok kind) (one.safe at))
+    (goes_weaker (IsPrefixMoment next (done ++ more) middle.told) (IsPrefixMoment state (asked ∷ done ++ more) a.told) (moments_of middle) (moments_of c)
+    (later_moment state asked (done ++ more) a.told middle.told (one.told at.honest.output))
+    (done_prefix middle b c next done more (stepped_at a middle state asked kind one at) rest tail))
+
+-- ---- the last moment
+
+abbrev present : Outside → Moment
+present outside = record { crash = outside.crash; told = outside.told }
+
+now_of : (P : Moment → Type 0) (old new : Outside) → GoesOn P (moments_of old) (moments_of new) → P (present new) ⊎ (new.crash ≡ old.crash)
+now_of P old new ([], is, all) = inr (ap (λ (ms : List Moment). (get_or ms 0 (present new)).crash) is)
+now_of P old new (moment ∷ more, is, all) = inl (subst P (sym (ap (λ (ms : List Moment). get_or ms 0 moment) is)) (all 0 moment (omega arith)))
+
+-- ---- how the run ended
+
+module _ (state : State) (done : List Command) (commands : List Command) (middle c : Outside) (at : IsSettledAt Stands (after state done (length done)) middle) where
+  abbrev here : State
+  here = after state done (length done)
+
+  -- what is left where nothing was done any more
+  still_leaves : (more : List Command) → commands ≡ done ++ more → LeavesAll (change_of middle c) → LeavesAfter state commands (length done) c.crash
+  still_leaves more parts all = λ image is.
+      let same : after state commands (length done) ≡ here = ap (λ (cs : List Command). after state cs (length done)) parts ∙ after_front state done more in
+      inl (subst (λ (s : State). Stands image s) (sym same) (settled_stands middle here c.crash at (all.images.now at.honest.images) image is))
+
+  -- or one more step was begun
+  step_leaves : (asked : Command) (more : List Command) → commands ≡ done ++ asked ∷ more → (answer : Result Kind Stop) → IsSafe Stands here (step_of here asked) answer middle c → LeavesAfter state commands (length done) c.crash
+  step_leaves asked more parts answer safe = λ image is. by_moment image is (now_of (IsStepMoment Stands here (step_of here asked) middle.told) middle c safe.moments)
+    where
+      was : after state commands (length done) ≡ here
+      was = ap (λ (cs : List Command). after state cs (length done)) parts ∙ after_front state done (asked ∷ more)
+
+      becomes : after state commands (length done + 1) ≡ (step_of here asked).state
+      becomes = ap (λ (cs : List Command). after state cs (length done + 1)) parts ∙ after_next state done asked more
+
+      by_side : (image : Folder) → Stands image here ⊎ Stands image (step_of here asked).state → Stands image (after state commands (length done)) ⊎ Stands image (after state commands (length done + 1))
+      by_side image (inl stands) = inl (subst (λ (s : State). Stands image s) (sym was) stands)
+      by_side image (inr stands) = inr (subst (λ (s : State). Stands image s) (sym becomes) stands)
+
+      by_moment : (image : Folder) → IsImage c.crash image → IsStepMoment Stands here (step_of here asked) middle.told (present c) ⊎ (c.crash ≡ middle.crash)
+          → Stands image (after state commands (length done)) ⊎ Stands image (after state commands (length done + 1))
+      by_moment image is (inl moment) = by_side image (moment.either image is)
+      by_moment image is (inr same) = by_side image (inl (agrees_stands middle.folder image here (at.leaves image (subst (λ (s : CrashState). IsImage s image) same is)) at.is))
+
+module _ (a b c : Outside) (asking : Asking) (told_input : IsTrue asking.tells) (state : State) (commands : List Command) (are : AreCommands asking.words asking.left commands) (done : List Command)
+    (at : IsSettledAt Stands state a) (steps : AreDone (change_of a b) state done) where
+  abbrev then_state : State
+  then_state = after state done (length done)
+
+  then_at : IsSettledAt Stands then_state b
+  then_at = done_settled a b state done at steps
+
+  abbrev Crashes : Type 0
+  Crashes = GoesOn (IsPrefixMoment state commands a.told) (moments_of a) (moments_of c) × LeavesAfter state commands (length done) c.crash
+
+  crashes : (more : List Command) → commands ≡ done ++ more → GoesOn (IsPrefixMoment then_state more b.told) (moments_of b) (moments_of c) → LeavesAfter state commands (length done) c.crash → Crashes
+  crashes more parts tail leaves = (
+    subst (λ (cs : List Command). GoesOn (IsPrefixMoment state cs a.told) (moments_of a) (moments_of c)) (sym parts) (done_prefix a b c state done more at steps tail),
+    leaves,
+  )
+
+  still : (more : List Command) → commands ≡ done ++ more → LeavesAll (change_of b c) → Crashes
+  still more parts all = crashes more parts (still_prefix b c then_state more then_at all) (still_leaves state done commands b c then_at more parts all)
+
+  ends_prefix : (stop : Option Stop) → EndsAfter (change_of b c) asking state done stop → Crashes
+  ends_prefix None (given, whole, all) = still [] (all_same asking told_input commands are done (whole told_input) ∙ sym (append-nil done)) all
+  ends_prefix (Some stop) (inl (run, between, given, all)) =
+      let (more, parts) = given_first asking told_input commands are done given in
+      still more parts all
+  ends_prefix (Some stop) (inr (asked, given, why, does)) =
+      let (more, first) = given_first asking told_input commands are (done ++ asked ∷ []) given in
+      let parts : commands ≡ done ++ asked ∷ more = first ∙ append_assoc done (asked ∷ []) more in
+      let safe = does.safe then_at in
+      crashes (asked ∷ more) parts (step_prefix then_state asked more b c (Err stop) safe) (step_leaves state done commands b c then_at asked more parts (Err stop) safe)
+
+-- ---- every run
+
+not_opened : (words : List (List ℕ)) (stop : Stop) → IsEarly words stop → TellsOpened words 0 (Some stop) → ⊥
+not_opened words stop early (inl late) = late early
+not_opened words stop early (inr some) = omega (arith, some)
+
+opening_moments : (a b : Outside) → IsHonest a → LeavesAll (change_of a b) → GoesOn (IsOpeningMoment a) (moments_of a) (moments_of b)
+opening_moments a b honest all =
+    goes_weaker (λ moment. AddsNone moment.crash a.crash × (moment.told ≡ a.told)) (IsOpeningMoment a) (moments_of a) (moments_of b) (λ moment is. record { told = is.1; adds = is.0 }) (all.images.moments honest.images)
+
+opened_at : (a b : Outside) (state : State) → IsHonest a → Stands a.folder state → Opens a b → IsSettledAt Stands state b
+opened_at a b state honest stands opens =
+    let same = opens.all.folder honest.folder in
+    record {
+      honest = still_honest a b opens.all honest;
+      is = subst (λ (f : Folder). Stands f state) (sym same) stands;
+      leaves = leaves_settled a.folder b.folder b.crash same (opens.settles honest.images);
+    }
+
+module _ (s : Change) (honest : IsHonest s.before) (a : Asking) (told_input : IsTrue a.tells) (state : State) (fresh : IsFresh state) (stands : Stands s.before.folder state)
+    (commands : List Command) (are : AreCommands a.words a.left commands) (outcome : Outcome) where
+  pub headline_crash : Ends s a outcome → LeavesPrefixes a.words outcome state commands s.before s.after
+  headline_crash (inl early) = record {
+    opened = moments_of s.after;
+    opening = opening_moments s.before s.after honest early.all;
+    steps = goes_none (IsPrefixMoment state commands s.before.told) (moments_of s.after);
+    at_end = λ opened. absurd (not_opened a.words early.stop early.early (subst (λ (o : Outcome). TellsOpened a.words o.done o.stop) early.outcome_is opened));
+  }
+  headline_crash (inr (other, done, opened)) =
+      let then = change_of opened.opened s.after in
+      let here : ComesTo then a outcome state done =
+      subst (λ (st : State). ComesTo then a outcome st done) (same_state s honest.folder a told_input state fresh stands commands are outcome other opened.comes.fresh opened.says) opened.comes in
+      let at : IsSettledAt Stands state opened.opened = opened_at s.before opened.opened state honest stands opened.opens in
+      let crashes = ends_prefix opened.opened here.middle s.after a told_input state commands are done at here.steps outcome.stop here.ends in
+      record {
+        opened = moments_of opened.opened;
+        opening = opening_moments s.before opened.opened honest opened.opens.all;
+        steps = subst (λ (told : List ℕ). GoesOn (IsPrefixMoment state commands told) (moments_of opened.opened) (moments_of s.after)) opened.opens.all.told crashes.0;
+        at_end = λ _. subst (λ (n : ℕ). LeavesAfter state commands n s.after.crash) (sym here.count) crashes.1;
+      }

@@ -1,0 +1,258 @@
+-- A run of one command: how it ends, and the causes of its stops.
+use Rattle.std.proofs.Common.{◌≡◌, ◌⊎◌, ℕ, ◌^◌, ◌<◌, Bool, true, false, cond, IsTrue, List, [], ◌∷◌, length, Option, None, Some, Result, Ok, Err, IfErr, inl, inr, refl, sym, ap, ◌∙◌, subst, arith}
+use Rattle.std.proofs.Math.Bool.{or-false}
+use Rattle.ts_site.specs.Faults.{CountsFault}
+use Rattle.ts_site.specs.Outside.{Outside}
+use Rattle.ts_script.specs.Commands.{AwaitBody, IsCommand, IsNoCommand}
+use Rattle.ts_script.specs.declared.command.Command.{Command}
+use Rattle.ts_store.specs.declared.stop.Kind.{Kind}
+use Rattle.ts_store.specs.declared.stop.Stop.{Stop}
+use Rattle.ts_store.specs.declared.stop.Stop.TheVariants.{Usage, Damaged, DiskFault, InputFault, OutputFault, InputLimit, Memory}
+use Rattle.ts_store.specs.FolderSays.{IsFirstDamaged}
+use Rattle.ts_store.specs.State.{State}
+use Rattle.ts_store.specs.Step.{step_of}
+use Rattle.ts_store.specs.Stops.{IsOpeningStop, IsStepStop, is_disk_fault, is_output_fault, kind_of}
+use Rattle.ts_cli.specs.Asked.{AreCommands, AreRun, Asking, Asks, ReadInput}
+use Rattle.ts_cli.specs.Causes.{HasCause, IsOverLimit, LimitCause, UsageCause, is_input_fault}
+use Rattle.ts_cli.specs.Change.{Change, LeavesAll, change_of}
+use Rattle.ts_cli.specs.Ends.{ComesTo, Ends, IsEarly}
+use Rattle.ts_cli.specs.Outcomes.{HasStatus, IsAfterReading, IsReadingStop, ended_outcome, stopped_outcome}
+use Rattle.ts_cli.specs.Single.{ComesToStep, IsStepped}
+use Rattle.ts_cli.specs.Tally.{is_refused}
+use Rattle.ts_cli.specs.declared.outcome.Outcome.{Outcome}
+use Rattle.ts_cli.proofs.CauseLaws.{some_is}
+use Rattle.ts_cli.proofs.HeadlineLaws.{damaged_cause}
+use Rattle.ts_cli.proofs.StepsLemmas.{no_change}
+
+-- words that are no command await no body
+pub awaits_none : (words : List (List ℕ)) → IsNoCommand words → AwaitBody words → ⊥
+awaits_none words none (opening, is) = none _ is
+
+-- words that aren't `run` read the input as a body
+pub reads_body : (words : List (List ℕ)) → (AreRun words → ⊥) → ReadInput words → AwaitBody words
+reads_body words single (inl run) = absurd (single run)
+reads_body words single (inr awaits) = awaits
+
+-- a command that was read is no stop
+pub read_no_stop : {C : Type 0} (command : C) → (Ok command ≡ Err Usage) ⊎ (Ok command ≡ Err Memory) → ⊥
+read_no_stop command (inl is) = cc
+read_no_stop command (inr is) = cc
+
+-- a stop is one of the two that it is answered as
+pub same_stop : {C : Type 0} (stop : Stop) → ◌≡◌ {A = Result C Stop} (Err stop) (Err Usage) ⊎ ◌≡◌ {A = Result C Stop} (Err stop) (Err Memory) → (stop ≡ Usage) ⊎ (stop ≡ Memory)
+same_stop stop (inl is) = inl (cc)
+same_stop stop (inr is) = inr (cc)
+
+-- a stop that comes before the folder is opened
+abbrev pub ComesFirst : Stop → Type 0
+ComesFirst stop = (stop ≡ Memory) ⊎ IsReadingStop stop
+
+-- the step, or the stop of the opening
+pub comes_of : (s : Change) (asked : Command) (answer : Result Kind Stop) (state : State) → IfErr answer IsStepStop → IsStepped s asked answer state → ComesToStep s asked answer
+comes_of s asked (Ok kind) state why does = (state, does)
+comes_of s asked (Err stop) state why does = inr (why, (state, does))
+
+-- ---- how it ends
+
+early_first : (words : List (List ℕ)) → (AreRun words → ⊥) → (stop : Stop) → ComesFirst stop → IsEarly words stop
+early_first words single Usage why = single
+early_first words single InputFault why = single
+early_first words single InputLimit why = single
+early_first words single (Damaged name) why = tt
+early_first words single DiskFault why = tt
+early_first words single Memory why = tt
+early_first words single OutputFault (inl is) = absurd (cc)
+early_first words single OutputFault (inr is) = absurd is
+
+pub early_opening : (words : List (List ℕ)) (stop : Stop) → IsOpeningStop stop → IsEarly words stop
+early_opening words (Damaged name) why = tt
+early_opening words DiskFault why = tt
+early_opening words Memory why = tt
+early_opening words Usage why = absurd why
+early_opening words InputFault why = absurd why
+early_opening words InputLimit why = absurd why
+early_opening words OutputFault why = absurd why
+
+-- it was asked for, and is all that is
+asked_all : (a : Asking) (asked : Command) → Asks a asked → IsTrue a.tells → AreCommands a.words a.left (asked ∷ [])
+asked_all a asked (lines, is, from) tells = inr (asked, subst (λ (ls : List (List ℕ)). IsCommand a.words 0 ls asked) (from tells) is, refl)
+
+pub kind_refused : (kind : Kind) (refused : Bool) → kind ≡ kind_of refused → is_refused kind ≡ (refused)
+kind_refused kind true is = ap is_refused is
+kind_refused kind false is = ap is_refused is
+
+module _ (s : Change) (a : Asking) where
+  -- a stop before the folder was opened
+  pub ends_first : (outcome : Outcome) (stop : Stop) → outcome ≡ stopped_outcome 0 stop → (AreRun a.words → ⊥) → ComesFirst stop → LeavesAll s → Ends s a outcome
+  ends_first outcome stop is single why all = inl (record { stop = stop; outcome_is = is; early = early_first a.words single stop why; all = all })
+
+  -- a stop of the opening
+  pub ends_opening : (outcome : Outcome) (stop : Stop) → outcome ≡ stopped_outcome 0 stop → IsOpeningStop stop → LeavesAll s → Ends s a outcome
+  ends_opening outcome stop is why all = inl (record { stop = stop; outcome_is = is; early = early_opening a.words stop why; all = all })
+
+  module _ (asked : Command) (asks : Asks a asked) where
+    pub ends_stopped : (outcome : Outcome) (stop : Stop) → outcome ≡ stopped_outcome 0 stop → ComesToStep s asked (Err stop) → Ends s a outcome
+    ends_stopped outcome stop is (inl (why, all)) = ends_opening outcome stop is why all
+    ends_stopped outcome stop is (inr (why, (state, does))) =
+        let then = change_of does.opened s.after in
+        let comes : ComesTo then a (stopped_outcome 0 stop) state [] = record {
+          fresh = does.fresh;
+          says = does.steps.says;
+          count = refl;
+          status = refl;
+          middle = does.opened;
+          steps = no_change does.opened;
+          ends = inr (asked, inr (asked, asks, refl), why, does.steps);
+        } in
+        inr (state, [], record { says = does.says; opened = does.opened; opens = does.opens; comes = subst (λ (o : Outcome). ComesTo then a o state []) (sym is) comes })
+
+    pub ends_answered : (outcome : Outcome) (kind : Kind) → outcome ≡ ended_outcome 1 (is_refused kind) → ComesToStep s asked (Ok kind) → Ends s a outcome
+    ends_answered outcome kind is (state, does) =
+        let then = change_of does.opened s.after in
+        let comes : ComesTo then a (ended_outcome 1 (is_refused kind)) state (asked ∷ []) = record {
+          fresh = does.fresh;
+          says = does.steps.says;
+          count = refl;
+          status = ap (λ (b : Bool). cond b 1 0) (kind_refused kind (step_of state asked).refused does.steps.kind ∙ sym (or-false (step_of state asked).refused));
+          middle = s.after;
+          steps = (s.after, kind, does.steps, no_change s.after);
+          ends = (inr (asked, asks, refl), asked_all a asked asks, no_change s.after);
+        } in
+        inr (state, asked ∷ [], record { says = does.says; opened = does.opened; opens = does.opens; comes = subst (λ (o : Outcome). ComesTo then a o state (asked ∷ [])) (sym is) comes })
+
+-- ---- the causes of a run that came to no command
+
+no_disk : (stop : Stop) → ComesFirst stop → is_disk_fault stop ≡ false
+no_disk Usage why = refl
+no_disk (Damaged name) why = refl
+no_disk DiskFault (inl is) = absurd (cc)
+no_disk DiskFault (inr is) = absurd is
+no_disk InputFault why = refl
+no_disk OutputFault why = refl
+no_disk InputLimit why = refl
+no_disk Memory why = refl
+
+no_output : (stop : Stop) → ComesFirst stop → is_output_fault stop ≡ false
+no_output Usage why = refl
+no_output (Damaged name) why = refl
+no_output DiskFault why = refl
+no_output InputFault why = refl
+no_output OutputFault (inl is) = absurd (cc)
+no_output OutputFault (inr is) = absurd is
+no_output InputLimit why = refl
+no_output Memory why = refl
+
+not_after : (words : List (List ℕ)) (stop : Stop) → ComesFirst stop → IsAfterReading words (Some stop) → ⊥
+not_after words Usage why after = after
+not_after words (Damaged name) (inl is) after = absurd (cc)
+not_after words (Damaged name) (inr is) after = is
+not_after words DiskFault (inl is) after = absurd (cc)
+not_after words DiskFault (inr is) after = is
+not_after words InputFault why after = after
+not_after words OutputFault (inl is) after = absurd (cc)
+not_after words OutputFault (inr is) after = is
+not_after words InputLimit why after = after
+not_after words Memory why after = after
+
+no_damage : (name : List ℕ) → ComesFirst (Damaged name) → ⊥
+no_damage name (inl is) = absurd (cc)
+no_damage name (inr is) = is
+
+module _ (a : Asking) (single : AreRun a.words → ⊥) (stop : Stop) (why : ComesFirst stop) where
+  usage_first : (stop ≡ Usage → IsNoCommand a.words) → (IsNoCommand a.words → (stop ≡ Usage) ⊎ (stop ≡ Memory)) → UsageCause a.words (Some stop)
+  usage_first usage none = (λ e. (usage (some_is stop Usage e), single), λ no. of_stop (none no.0))
+    where
+      of_stop : (stop ≡ Usage) ⊎ (stop ≡ Memory) → (Some stop ≡ Some Usage) ⊎ (Some stop ≡ Some Memory)
+      of_stop (inl e) = inl (ap Some e)
+      of_stop (inr e) = inr (ap Some e)
+
+  limit_first : (left_after : List ℕ) → (stop ≡ InputLimit → AwaitBody a.words) → (IsTrue a.tells → stop ≡ InputLimit → IsOverLimit a.left left_after) → LimitCause a left_after (Some stop)
+  limit_first left_after read over = (
+    λ e. (inr (read (some_is stop InputLimit e)), λ told. over told (some_is stop InputLimit e)),
+    λ reading told long after. not_after a.words stop why after,
+  )
+
+  pub cause_first : (o : Outside) (outcome : Outcome) → outcome ≡ stopped_outcome 0 stop → (left_after : List ℕ) (faults faults_after : ℕ)
+      → (stop ≡ Usage → IsNoCommand a.words) → (IsNoCommand a.words → (stop ≡ Usage) ⊎ (stop ≡ Memory)) → (stop ≡ InputLimit → AwaitBody a.words)
+      → (IsTrue a.tells → stop ≡ InputLimit → IsOverLimit a.left left_after) → CountsFault (is_input_fault stop) faults faults_after
+      → HasCause (change_of o o) a left_after faults faults_after outcome.stop
+  cause_first o outcome is left_after faults faults_after usage none read over counts =
+      let ends : Ends (change_of o o) a (stopped_outcome 0 stop) = ends_first (change_of o o) a (stopped_outcome 0 stop) stop refl single why (no_change o) in
+      let cause : HasCause (change_of o o) a left_after faults faults_after (Some stop) = record {
+        usage = usage_first usage none;
+        disk = subst (λ (b : Bool). CountsFault b o.disk_faults o.disk_faults) (sym (no_disk stop why)) refl;
+        output = subst (λ (b : Bool). CountsFault b o.say_faults o.say_faults) (sym (no_output stop why)) refl;
+        input = counts;
+        damaged = λ told. damaged_cause (change_of o o) a (stopped_outcome 0 stop) ends (λ name e. absurd (no_damage name (subst ComesFirst (some_is stop (Damaged name) e) why)));
+        limit = limit_first left_after read over;
+      } in
+      subst (λ (out : Outcome). HasCause (change_of o o) a left_after faults faults_after out.stop) (sym is) cause
+
+-- ---- the causes of a run that read its command
+
+module _ (s : Change) (a : Asking) (single : AreRun a.words → ⊥) (command : IsNoCommand a.words → ⊥) (left_after : List ℕ) (faults faults_after : ℕ) (quiet : faults_after ≡ faults)
+    (short : IsTrue a.tells → AwaitBody a.words → length a.left < 2 ^ 40) where
+  usage_read : (stop : Option Stop) → (stop ≡ Some Usage → ⊥) → UsageCause a.words stop
+  usage_read stop later = (λ e. absurd (later e), λ none. absurd (command none.0))
+
+  limit_read : (stop : Option Stop) → (stop ≡ Some InputLimit → ⊥) → LimitCause a left_after stop
+  limit_read stop later = (λ e. absurd (later e), λ reading told long after. let below = short told (reads_body a.words single reading) in omega (arith, below, long))
+
+  input_read : (stop : Stop) → (IsReadingStop stop → ⊥) → CountsFault (is_input_fault stop) faults faults_after
+  input_read InputFault later = absurd (later tt)
+  input_read Usage later = quiet
+  input_read (Damaged name) later = quiet
+  input_read DiskFault later = quiet
+  input_read OutputFault later = quiet
+  input_read InputLimit later = quiet
+  input_read Memory later = quiet
+
+  later_usage : (stop : Stop) → (IsReadingStop stop → ⊥) → Some stop ≡ Some Usage → ⊥
+  later_usage stop later e = later (subst IsReadingStop (sym (some_is stop Usage e)) tt)
+
+  later_limit : (stop : Stop) → (IsReadingStop stop → ⊥) → Some stop ≡ Some InputLimit → ⊥
+  later_limit stop later e = later (subst IsReadingStop (sym (some_is stop InputLimit e)) tt)
+
+  pub cause_stopped : (outcome : Outcome) (stop : Stop) → outcome ≡ stopped_outcome 0 stop → (IsReadingStop stop → ⊥)
+      → CountsFault (is_disk_fault stop) s.before.disk_faults s.after.disk_faults → CountsFault (is_output_fault stop) s.before.say_faults s.after.say_faults
+      → (IsTrue s.before.tells_folder → Ends s a outcome) → (IsTrue s.before.tells_folder → (name : List ℕ) → stop ≡ Damaged name → IsFirstDamaged s.before.folder name)
+      → HasCause s a left_after faults faults_after outcome.stop
+  cause_stopped outcome stop is later disk output ends named =
+      let cause : HasCause s a left_after faults faults_after (Some stop) = record {
+        usage = usage_read (Some stop) (later_usage stop later);
+        disk = disk;
+        output = output;
+        input = input_read stop later;
+        damaged = λ told. damaged_cause s a (stopped_outcome 0 stop) (subst (λ (o : Outcome). Ends s a o) is (ends told)) (λ name e. named told name (some_is stop (Damaged name) e));
+        limit = limit_read (Some stop) (later_limit stop later);
+      } in
+      subst (λ (o : Outcome). HasCause s a left_after faults faults_after o.stop) (sym is) cause
+
+  pub cause_answered : (outcome : Outcome) (refused : Bool) → outcome ≡ ended_outcome 1 refused
+      → s.after.disk_faults ≡ s.before.disk_faults → s.after.say_faults ≡ s.before.say_faults → (IsTrue s.before.tells_folder → Ends s a outcome)
+      → HasCause s a left_after faults faults_after outcome.stop
+  cause_answered outcome refused is disk output ends =
+      let cause : HasCause s a left_after faults faults_after None = record {
+        usage = usage_read None (λ e. cc);
+        disk = disk;
+        output = output;
+        input = quiet;
+        damaged = λ told. damaged_cause s a (ended_outcome 1 refused) (subst (λ (o : Outcome). Ends s a o) is (ends told)) (λ name e. absurd (cc));
+        limit = limit_read None (λ e. cc);
+      } in
+      subst (λ (o : Outcome). HasCause s a left_after faults faults_after o.stop) (sym is) cause
+
+-- ---- the status
+
+pub status_stopped : (words : List (List ℕ)) (outcome : Outcome) (stop : Stop) → outcome ≡ stopped_outcome 0 stop → HasStatus words outcome
+status_stopped words outcome stop is =
+    let status : HasStatus words (stopped_outcome 0 stop) = record { status = refl; single = λ _. refl } in
+    subst (λ (o : Outcome). HasStatus words o) (sym is) status
+
+pub status_answered : (words : List (List ℕ)) (outcome : Outcome) (refused : Bool) → outcome ≡ ended_outcome 1 refused → HasStatus words outcome
+status_answered words outcome true is =
+    let status : HasStatus words (ended_outcome 1 true) = record { status = omega arith; single = λ _. refl } in
+    subst (λ (o : Outcome). HasStatus words o) (sym is) status
+status_answered words outcome false is =
+    let status : HasStatus words (ended_outcome 1 false) = record { status = omega arith; single = λ _. refl } in
+    subst (λ (o : Outcome). HasStatus words o) (sym is) status
