@@ -10,6 +10,8 @@ struct Change<'a> {
     before: &'a [(&'a str, &'a str)],
     words: &'a [&'a str],
     input: &'a str,
+    /// The reply.
+    told: &'a str,
     /// A script that asks what stands and then makes a base, and its replies before the change and after it.
     asked: &'a str,
     old: &'a str,
@@ -30,6 +32,7 @@ const COMMIT: Change<'static> = Change {
     before: &[("00000001.layer", FIRST)],
     words: &["commit", "00000001"],
     input: "<c> <p> <d> .\n",
+    told: "layer 00000002\n",
     asked: "layers\nbase\n<e> <p> <f> .\nend\n",
     old: "layer 00000001 parent none\ntotal 1\nlayer 00000002\n",
     new: "layer 00000001 parent none\nlayer 00000002 parent 00000001\ntotal 2\nlayer 00000003\n",
@@ -39,6 +42,7 @@ const SQUASH: Change<'static> = Change {
     before: TWO_AND_LABEL,
     words: &["squash", "00000002"],
     input: "",
+    told: "layer 00000003\n",
     asked: "layers\nbase\n<e> <p> <f> .\nend\n",
     old: "layer 00000001 parent none\nlayer 00000002 parent 00000001\ntotal 2\nlayer 00000003\n",
     new: "layer 00000001 parent none\nlayer 00000002 parent 00000001\nlayer 00000003 parent none\ntotal 3\nlayer 00000004\n",
@@ -48,6 +52,7 @@ const LABEL_NEW: Change<'static> = Change {
     before: TWO_AND_LABEL,
     words: &["label", "new", "side"],
     input: "",
+    told: "label side 0 none\n",
     asked: "labels\nbase\n<e> <p> <f> .\nend\n",
     old: "label main 1 00000002\ntotal 1\nlayer 00000003\n",
     new: "label main 1 00000002\nlabel side 0 none\ntotal 2\nlayer 00000003\n",
@@ -57,6 +62,7 @@ const LABEL_SET: Change<'static> = Change {
     before: TWO_AND_LABEL,
     words: &["label", "set", "main", "1", "00000001"],
     input: "",
+    told: "label main 2 00000001\n",
     asked: "labels\nbase\n<e> <p> <f> .\nend\n",
     old: "label main 1 00000002\ntotal 1\nlayer 00000003\n",
     new: "label main 2 00000001\ntotal 1\nlayer 00000003\n",
@@ -104,6 +110,10 @@ fn is_safe(alloc: Global, change: &Change<'_>, calls: u64, wanted: u8) -> Result
     let mut site = folder_with(alloc, change.before)?;
     site.stop_after(calls);
     if status_of(alloc, &mut site, change.words, change.input)? != wanted {
+        return Ok(false);
+    }
+    let told = if calls < 7 { "" } else { change.told };
+    if site.told() != told.as_bytes() {
         return Ok(false);
     }
     for choice in CHOICES {

@@ -3,6 +3,8 @@
 #![tactic(auto)]
 
 #[cfg(test)]
+mod call_rows;
+#[cfg(test)]
 mod crash_rows;
 #[cfg(test)]
 mod cursor_rows;
