@@ -1,5 +1,5 @@
 // The lines of an input, one at a time.
-ghost use Rattle.std.specs.Prelude.{◌≡◌, ◌≢◌, ◌⊎◌, ◌+◌, ◌-◌, ◌≤◌, ◌<◌, ℕ, List, [], ◌∷◌, ◌++◌, length, map, take, drop, slice_index, slice_range, IsTrue, IfSome, IfNone, IfOk, MatchResult, is_err, true, false, vec_len};
+ghost use Rattle.std.specs.Prelude.{◌≡◌, ◌≢◌, ◌⊎◌, ◌+◌, ◌-◌, ◌≤◌, ◌<◌, ℕ, List, [], ◌∷◌, ◌++◌, length, map, take, drop, slice_index, slice_range, IsTrue, IfSome, IfNone, IfOk, MatchResult, is_err, true, false, vec_len, vec_capacity};
 ghost use Rattle.ts_script.specs.Lines.{buffer_size, HasNoEnd, is_end, view_after, line_view, lines_of, feed_of};
 ghost use Rattle.ts_nt.specs.Limits.{line_limit};
 ghost use Rattle.ts_site.specs.Faults.{CountsFault, is_err_and};
@@ -62,8 +62,9 @@ pub struct LineCutter {
     has_ended: bool,
     ghost ordered: { start ≤ scanned },
     ghost reached: { scanned ≤ end },
-    ghost in_room: { end ≤ buffer_size },
-    ghost room: { vec_len buffer ≡ buffer_size },
+    ghost in_buffer: { end ≤ vec_len buffer },
+    ghost in_room: { vec_len buffer ≤ buffer_size },
+    ghost room: { buffer_size ≤ vec_capacity buffer },
     ghost numbered: { number ≤ passed },
     ghost counted: { passed + (end - start) ≤ taken },
     ghost within: { taken ≤ limit },
@@ -137,6 +138,7 @@ fn take_into<S: Source>(
     requires inside { at + most ≤ vec_len buffer.old }
     requires some { 0 < most }
     ensures len { vec_len buffer.new ≡ vec_len buffer.old }
+    ensures capacity { vec_capacity buffer.new ≡ vec_capacity buffer.old }
     ensures before { take at buffer.new.items ≡ take at buffer.old.items }
     ensures within { IfOk result (λ n. n ≤ most) }
     ensures taken { Tells (S.tells input.old) (S.tells input.new)
@@ -173,13 +175,13 @@ impl LineCutter {
     ghost use Rattle.ts_script.specs.Cutting.{progress, buffered, lines_to_come, MeansSame, HasNoWholeLine, HasWholeLine, GivesWhole, GivesLine, HasEnded, Takes, NextIs, Fills, IsFresh, view_at, view_of, next_offset};
     ghost use Rattle.ts_script.specs.contracts.cutter.LineCutter.{the_row};
 
-    /// A cutter that takes at most `limit` bytes. It takes all the memory that it will need.
+    /// A cutter that takes at most `limit` bytes. It reserves all the memory that it will need, and uses as much of it as lines need.
     pub fn new(alloc: Global, limit: u64) -> Result<LineCutter, AllocError>
         ensures lines { IfOk result (λ cutter. (left : List ℕ) → lines_to_come cutter left ≡ map line_view (lines_of left)) }
         ensures fresh { IfOk result (λ cutter. IsFresh cutter limit) }
     {
         Ok(LineCutter {
-            buffer: vec![in alloc; 0; ROOM]?,
+            buffer: Vec::with_capacity(alloc, ROOM)?,
             start: 0,
             scanned: 0,
             end: 0,
@@ -218,7 +220,7 @@ impl LineCutter {
         requires end { is_end (slice_index self.old.buffer.items at) ≡ true }
         ensures gives { GivesWhole self.old self.new (view_at self.new result) }
         ensures in_buffer { result.from ≤ result.to }
-        ensures in_room { result.to ≤ buffer_size }
+        ensures in_room { result.to ≤ vec_len self.new.buffer }
     {
         let span = span_of(self.is_overlong, self.start, at);
         self.after_return = self.buffer[at] == b'\r';
@@ -249,7 +251,7 @@ impl LineCutter {
     /// The next line, where it is buffered whole.
     fn whole_line(&mut self) -> Option<Span>
         ensures some { IfSome result (λ span. GivesWhole self.old self.new (view_at self.new span)) }
-        ensures in_buffer { IfSome result (λ span. (span.from ≤ span.to) × (span.to ≤ buffer_size)) }
+        ensures in_buffer { IfSome result (λ span. (span.from ≤ span.to) × (span.to ≤ vec_len self.new.buffer)) }
         ensures none { IfNone result (MeansSame self.old self.new) }
         ensures no_line { IfNone result (HasNoWholeLine self.new) }
         ensures waits { IfNone result (HasWholeLine self.old → ⊥) }
@@ -282,7 +284,7 @@ impl LineCutter {
         requires none { HasNoWholeLine self.old }
         requires ended { self.old.has_ended ≡ true }
         ensures some { IfSome result (λ span. GivesLine self.old self.new [] (view_at self.new span)) }
-        ensures in_buffer { IfSome result (λ span. (span.from ≤ span.to) × (span.to ≤ buffer_size)) }
+        ensures in_buffer { IfSome result (λ span. (span.from ≤ span.to) × (span.to ≤ vec_len self.new.buffer)) }
         ensures none { IfNone result (HasEnded self.old self.new []) }
     {
         if !self.has_rest() {
@@ -297,21 +299,48 @@ impl LineCutter {
         Some(span)
     }
 
-    /// Moves what is buffered to the front, where it has come to the back.
-    fn make_room(&mut self)
+    /// Moves what is buffered to the front, where it has come to the back, or is no longer than what was passed.
+    fn move_to_front(&mut self)
         requires none { HasNoWholeLine self.old }
         ensures takes { Takes self.old self.new [] }
         ensures none { HasNoWholeLine self.new }
         ensures ended { self.new.has_ended ≡ self.old.has_ended }
         ensures room { self.new.end < buffer_size }
     {
-        if self.end == ROOM {
-            let len = self.end - self.start;
+        let len = self.end - self.start;
+        if self.end == ROOM || len <= self.start {
             to_front(&mut self.buffer, self.start, self.end);
             self.start = 0;
             self.scanned = len;
             self.end = len;
         }
+    }
+
+    /// Makes the buffer longer, within the room that is reserved, where a piece doesn't fit behind what is buffered.
+    fn widen(&mut self)
+        requires none { HasNoWholeLine self.old }
+        requires room { self.old.end < buffer_size }
+        ensures takes { Takes self.old self.new [] }
+        ensures none { HasNoWholeLine self.new }
+        ensures ended { self.new.has_ended ≡ self.old.has_ended }
+        ensures room { self.new.end < vec_len self.new.buffer }
+    {
+        let len = ROOM.min(self.end + PIECE);
+        if self.buffer.len() < len {
+            self.buffer.resize(len, 0).unwrap();
+        }
+    }
+
+    /// Makes room behind what is buffered.
+    fn make_room(&mut self)
+        requires none { HasNoWholeLine self.old }
+        ensures takes { Takes self.old self.new [] }
+        ensures none { HasNoWholeLine self.new }
+        ensures ended { self.new.has_ended ≡ self.old.has_ended }
+        ensures room { self.new.end < vec_len self.new.buffer }
+    {
+        self.move_to_front();
+        self.widen();
     }
 
     /// Takes more bytes, or sees the end.
@@ -325,7 +354,7 @@ impl LineCutter {
         ensures counts { CountsFault (is_err_and is_input_fault result) (S.faults input.old) (S.faults input.new) }
     {
         self.make_room();
-        let room = (self.limit - self.taken).min((ROOM - self.end) as u64) as usize;
+        let room = (self.limit - self.taken).min((self.buffer.len() - self.end) as u64) as usize;
         match take_into(input, &mut self.buffer, self.end, room) {
             Err(_) => Err(InputStop::Fault),
             Ok(0) => {
@@ -348,7 +377,7 @@ impl LineCutter {
         ensures closed { self.old.has_ended ≡ true → input.new ≡ input.old }
         ensures lazy { HasWholeLine self.old → input.new ≡ input.old }
         ensures counts { CountsFault (is_err_and is_input_fault result) (S.faults input.old) (S.faults input.new) }
-        ensures in_buffer { IfOk result (λ line. IfSome line (λ span. (span.from ≤ span.to) × (span.to ≤ buffer_size))) }
+        ensures in_buffer { IfOk result (λ line. IfSome line (λ span. (span.from ≤ span.to) × (span.to ≤ vec_len self.new.buffer))) }
     {
         loop {
             if let Some(span) = self.whole_line() {
@@ -369,7 +398,7 @@ impl LineCutter {
     /// The line at a span.
     fn line_of(&self, span: Span) -> Line<'_>
         requires ordered { span.from ≤ span.to }
-        requires in_room { span.to ≤ buffer_size }
+        requires in_room { span.to ≤ vec_len self.now.buffer }
         ensures line { view_of result ≡ view_at self.now span }
         ensures number { result.number ≡ self.now.number }
     {
