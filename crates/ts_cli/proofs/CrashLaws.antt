@@ -2,16 +2,17 @@
 use Rattle.std.proofs.Common.{◌≡◌, ◌⊎◌, ℕ, zero, suc, ◌+◌, ◌<◌, ◌≤◌, Bool, true, false, nat_lt, List, [], ◌∷◌, ◌++◌, length, take, IsTrue, Option, None, Some, Result, Ok, Err, inl, inr, refl, sym, ap, ◌∙◌, subst, arith, append-nil, append_assoc, length-append, get_or, add-one}
 use Rattle.std.proofs.lemmas.Bool.{ltb-false, ltb-true}
 use Rattle.std.proofs.lemmas.List.{take_all}
-use Rattle.ts_site.specs.Crash.{AddsNone, CrashState, EachImage, IsImage}
+use Rattle.ts_site.specs.Crash.{AddsNone, CrashState, EachImage, IsImage, settled}
 use Rattle.ts_site.specs.Folder.{Folder}
 use Rattle.ts_site.specs.Moments.{GoesOn, Moment}
-use Rattle.ts_site.specs.Outside.{IsHonest, Outside, moments_of}
-use Rattle.ts_site.proofs.GoesLemmas.{goes_more, goes_none, goes_weaker}
+use Rattle.ts_site.specs.Outside.{AddsNoImage, IsHonest, Outside, moments_of}
+use Rattle.ts_site.proofs.CrashLemmas.{adds_none_more, adds_none_same}
+use Rattle.ts_site.proofs.GoesLemmas.{goes_more, goes_weaker, honest_reads}
 use Rattle.ts_script.specs.declared.command.Command.{Command}
 use Rattle.ts_store.specs.declared.stop.Kind.{Kind}
 use Rattle.ts_store.specs.declared.stop.Stop.{Stop}
 use Rattle.ts_store.specs.FolderSays.{FolderSays}
-use Rattle.ts_store.specs.Safe.{IsSafe, IsSettledAt, IsStepMoment}
+use Rattle.ts_store.specs.Safe.{IsSafe, IsSettledAt, IsStepMoment, SettlesAll}
 use Rattle.ts_store.specs.Stands.{Stands}
 use Rattle.ts_store.specs.State.{IsFresh, State}
 use Rattle.ts_store.specs.Step.{step_of}
@@ -20,9 +21,8 @@ use Rattle.ts_store.proofs.SafeLaws.{agrees_stands}
 use Rattle.ts_store.proofs.SettledLaws.{leaves_settled, settled_stands}
 use Rattle.ts_cli.specs.Asked.{AreCommands, Asking}
 use Rattle.ts_cli.specs.Change.{Change, LeavesAll, change_of}
-use Rattle.ts_cli.specs.Crash.{IsOpeningMoment, IsPrefixMoment, LeavesAfter, LeavesPrefixes, TellsOpened}
-use Rattle.ts_cli.specs.Ends.{AreDone, ComesTo, Ends, EndsAfter, IsEarly, Opens, OpensAndComes, StepsFrom}
-use Rattle.ts_cli.specs.Outcomes.{stopped_outcome}
+use Rattle.ts_cli.specs.Crash.{IsCrashSafe, IsOpeningMoment, IsPrefixMoment, LeavesAfter}
+use Rattle.ts_cli.specs.Ends.{AreDone, ComesTo, Ends, EndsAfter, IsUnsettled, Opens, OpensAndComes, StepsFrom, StopsEarly}
 use Rattle.ts_cli.specs.declared.outcome.Outcome.{Outcome}
 use Rattle.ts_cli.proofs.CommandsLemmas.{after_front, after_next, after_none, answers_none}
 use Rattle.ts_cli.proofs.HeadlineLaws.{all_same, given_first, same_state}
@@ -35,19 +35,19 @@ proper_none : (state : State) (commands : List Command) → (0 ≡ length comman
 proper_none state [] = inl refl
 proper_none state (asked ∷ rest) = inr (step_tells state asked)
 
-module _ (a b : Outside) (state : State) (commands : List Command) (at : IsSettledAt Stands state a) (all : LeavesAll (change_of a b)) where
+module _ (a b : Outside) (state : State) (commands : List Command) (at : IsSettledAt Stands state a) (adds : AddsNoImage a b) where
   still_moment : (moment : Moment) → AddsNone moment.crash a.crash × (moment.told ≡ a.told) → IsPrefixMoment state commands a.told moment
-  still_moment moment (adds, same) = record {
+  still_moment moment (none, same) = record {
     done = 0;
     within = omega arith;
     count = 0;
     front = same ∙ sym (append-nil a.told) ∙ ap (λ (l : List ℕ). a.told ++ l) (sym (append-nil (answers state commands 0) ∙ answers_none state commands));
     proper = proper_none state commands;
-    leaves = λ image here. inl (subst (λ (s : State). Stands image s) (sym (after_none state commands)) (settled_stands a state moment.crash at adds image here));
+    leaves = λ image here. inl (subst (λ (s : State). Stands image s) (sym (after_none state commands)) (settled_stands a state moment.crash at none image here));
   }
 
   still_prefix : GoesOn (IsPrefixMoment state commands a.told) (moments_of a) (moments_of b)
-  still_prefix = goes_weaker (λ moment. AddsNone moment.crash a.crash × (moment.told ≡ a.told)) (IsPrefixMoment state commands a.told) (moments_of a) (moments_of b) still_moment (all.images.moments at.honest.images)
+  still_prefix = goes_weaker (λ moment. AddsNone moment.crash a.crash × (moment.told ≡ a.told)) (IsPrefixMoment state commands a.told) (moments_of a) (moments_of b) still_moment (adds.moments at.honest.images)
 
 -- ---- the first step
 
@@ -140,7 +140,7 @@ done_settled a b state (asked ∷ done) at (middle, kind, one, rest) = done_sett
 done_prefix : (a b c : Outside) (state : State) (done more : List Command) → IsSettledAt Stands state a → AreDone (change_of a b) state done
     → GoesOn (IsPrefixMoment (after state done (length done)) more b.told) (moments_of b) (moments_of c) → GoesOn (IsPrefixMoment state (done ++ more) a.told) (moments_of a) (moments_of c)
 done_prefix a b c state [] more at all tail =
-    goes_more (IsPrefixMoment state more a.told) (moments_of a) (moments_of b) (moments_of c) (still_prefix a b state more at all)
+    goes_more (IsPrefixMoment state more a.told) (moments_of a) (moments_of b) (moments_of c) (still_prefix a b state more at all.images)
     (subst (λ (told : List ℕ). GoesOn (IsPrefixMoment state more told) (moments_of b) (moments_of c)) all.told tail)
 done_prefix a b c state (asked ∷ done) more at (middle, kind, one, rest) tail =
     let next = (step_of state asked).state in
@@ -207,7 +207,7 @@ module _ (a b c : Outside) (asking : Asking) (told_input : IsTrue asking.tells) 
   )
 
   still : (more : List Command) → commands ≡ done ++ more → LeavesAll (change_of b c) → Crashes
-  still more parts all = crashes more parts (still_prefix b c then_state more then_at all) (still_leaves state done commands b c then_at more parts all)
+  still more parts all = crashes more parts (still_prefix b c then_state more then_at all.images) (still_leaves state done commands b c then_at more parts all)
 
   ends_prefix : (stop : Option Stop) → EndsAfter (change_of b c) asking state done stop → Crashes
   ends_prefix None (given, whole, all) = still [] (all_same asking told_input commands are done (whole told_input) ∙ sym (append-nil done)) all
@@ -222,41 +222,91 @@ module _ (a b c : Outside) (asking : Asking) (told_input : IsTrue asking.tells) 
 
 -- ---- every run
 
-not_opened : (words : List (List ℕ)) (stop : Stop) → IsEarly words stop → TellsOpened words 0 (Some stop) → ⊥
-not_opened words stop early (inl late) = late early
-not_opened words stop early (inr some) = omega (arith, some)
+opening_moments : (a b : Outside) → IsHonest a → AddsNoImage a b → GoesOn (IsOpeningMoment a) (moments_of a) (moments_of b)
+opening_moments a b honest adds =
+    goes_weaker (λ moment. AddsNone moment.crash a.crash × (moment.told ≡ a.told)) (IsOpeningMoment a) (moments_of a) (moments_of b) (λ moment is. record { told = is.1; adds = is.0 }) (adds.moments honest.images)
 
-opening_moments : (a b : Outside) → IsHonest a → LeavesAll (change_of a b) → GoesOn (IsOpeningMoment a) (moments_of a) (moments_of b)
-opening_moments a b honest all =
-    goes_weaker (λ moment. AddsNone moment.crash a.crash × (moment.told ≡ a.told)) (IsOpeningMoment a) (moments_of a) (moments_of b) (λ moment is. record { told = is.1; adds = is.0 }) (all.images.moments honest.images)
+-- from the moment when the folder was settled on a crash leaves what stands for its state
+module _ (a b : Outside) (state : State) (honest : IsHonest a) (stands : Stands a.folder state) (settles : SettlesAll a b) where
+  abbrev middle : Outside
+  middle = settles.middle
+
+  middle_at : IsSettledAt Stands state middle
+  middle_at =
+      let same = settles.before.folder honest.folder in
+      record {
+        honest = honest_reads false a middle settles.before honest;
+        is = subst (λ (f : Folder). Stands f state) (sym same) stands;
+        leaves = leaves_settled a.folder middle.folder middle.crash same (adds_none_same (settled a.folder) middle.crash settles.settles);
+      }
+
+  middle_told : middle.told ≡ a.told
+  middle_told = settles.before.output.same_told
+
+  settled_opening : GoesOn (IsOpeningMoment a) (moments_of a) (moments_of middle)
+  settled_opening = opening_moments a middle honest settles.before.images
+
+  settled_prefix : (commands : List Command) → GoesOn (IsPrefixMoment state commands a.told) (moments_of middle) (moments_of b)
+  settled_prefix commands =
+      subst (λ (told : List ℕ). GoesOn (IsPrefixMoment state commands told) (moments_of middle) (moments_of b)) middle_told (still_prefix middle b state commands middle_at settles.since)
+
+  settled_leaves : AddsNone b.crash middle.crash
+  settled_leaves = settles.since.now middle_at.honest.images
 
 opened_at : (a b : Outside) (state : State) → IsHonest a → Stands a.folder state → Opens a b → IsSettledAt Stands state b
 opened_at a b state honest stands opens =
+    let settles = opens.settles honest.images in
     let same = opens.all.folder honest.folder in
     record {
       honest = still_honest a b opens.all honest;
       is = subst (λ (f : Folder). Stands f state) (sym same) stands;
-      leaves = leaves_settled a.folder b.folder b.crash same (opens.settles honest.images);
+      leaves =
+          leaves_settled a.folder b.folder b.crash same
+          (adds_none_more (settled a.folder) settles.middle.crash b.crash (adds_none_same (settled a.folder) settles.middle.crash settles.settles) (settled_leaves a b state honest stands settles));
     }
 
 module _ (s : Change) (honest : IsHonest s.before) (a : Asking) (told_input : IsTrue a.tells) (state : State) (fresh : IsFresh state) (stands : Stands s.before.folder state)
     (commands : List Command) (are : AreCommands a.words a.left commands) (outcome : Outcome) where
-  pub headline_crash : Ends s a outcome → LeavesPrefixes a.words outcome state commands s.before s.after
-  headline_crash (inl early) = record {
-    opened = moments_of s.after;
-    opening = opening_moments s.before s.after honest early.all;
-    steps = goes_none (IsPrefixMoment state commands s.before.told) (moments_of s.after);
-    at_end = λ opened. absurd (not_opened a.words early.stop early.early (subst (λ (o : Outcome). TellsOpened a.words o.done o.stop) early.outcome_is opened));
-  }
+  -- a run that stopped before its first command
+  stopped_safe : (early : StopsEarly s a.words outcome) → (IsUnsettled a.words early.stop × (s.after.crash ≡ s.before.crash)) ⊎ SettlesAll s.before s.after
+      → IsCrashSafe a.words outcome state commands s.before s.after
+  stopped_safe early (inl (unsettled, same)) = inl (record {
+    stop = early.stop;
+    stops = ap (λ (o : Outcome). o.stop) early.outcome_is;
+    unsettled = unsettled;
+    none = ap (λ (o : Outcome). o.done) early.outcome_is;
+    now = same;
+    moments = opening_moments s.before s.after honest early.all.images;
+  })
+  stopped_safe early (inr settles) = inr (record {
+    middle = settles.middle;
+    settles = settles.settles;
+    opening = settled_opening s.before s.after state honest stands settles;
+    steps = settled_prefix s.before s.after state honest stands settles commands;
+    now =
+        λ image is.
+        inl
+        (subst (λ (n : ℕ). Stands image (after state commands n)) (sym (ap (λ (o : Outcome). o.done) early.outcome_is))
+        (subst (λ (st : State). Stands image st) (sym (after_none state commands))
+        (settled_stands settles.middle state s.after.crash (middle_at s.before s.after state honest stands settles) (settled_leaves s.before s.after state honest stands settles) image is)));
+  })
+
+  pub headline_crash : Ends s a outcome → IsCrashSafe a.words outcome state commands s.before s.after
+  headline_crash (inl early) = stopped_safe early (early.settles honest.images)
   headline_crash (inr (other, done, opened)) =
       let then = change_of opened.opened s.after in
       let here : ComesTo then a outcome state done =
       subst (λ (st : State). ComesTo then a outcome st done) (same_state s honest.folder a told_input state fresh stands commands are outcome other opened.comes.fresh opened.says) opened.comes in
       let at : IsSettledAt Stands state opened.opened = opened_at s.before opened.opened state honest stands opened.opens in
+      let settles = opened.opens.settles honest.images in
       let crashes = ends_prefix opened.opened here.middle s.after a told_input state commands are done at here.steps outcome.stop here.ends in
-      record {
-        opened = moments_of opened.opened;
-        opening = opening_moments s.before opened.opened honest opened.opens.all;
-        steps = subst (λ (told : List ℕ). GoesOn (IsPrefixMoment state commands told) (moments_of opened.opened) (moments_of s.after)) opened.opens.all.told crashes.0;
-        at_end = λ _. subst (λ (n : ℕ). LeavesAfter state commands n s.after.crash) (sym here.count) crashes.1;
-      }
+      inr (record {
+        middle = settles.middle;
+        settles = settles.settles;
+        opening = settled_opening s.before opened.opened state honest stands settles;
+        steps =
+            goes_more (IsPrefixMoment state commands s.before.told) (moments_of settles.middle) (moments_of opened.opened) (moments_of s.after)
+            (settled_prefix s.before opened.opened state honest stands settles commands)
+            (subst (λ (told : List ℕ). GoesOn (IsPrefixMoment state commands told) (moments_of opened.opened) (moments_of s.after)) opened.opens.all.told crashes.0);
+        now = subst (λ (n : ℕ). LeavesAfter state commands n s.after.crash) (sym here.count) crashes.1;
+      })

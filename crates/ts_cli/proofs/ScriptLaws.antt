@@ -16,6 +16,7 @@ use Rattle.ts_store.specs.declared.stop.Stop.{Stop}
 use Rattle.ts_store.specs.declared.stop.Stop.TheVariants.{Usage, Damaged, DiskFault, InputFault, OutputFault, InputLimit, Memory}
 use Rattle.ts_store.specs.FolderSays.{FolderSays, IsFirstDamaged}
 use Rattle.ts_store.specs.Keeps.{Keeps}
+use Rattle.ts_store.specs.Safe.{StopsSettled}
 use Rattle.ts_store.specs.State.{IsFresh as IsFreshState, State}
 use Rattle.ts_store.specs.Step.{step_of}
 use Rattle.ts_store.specs.Steps.{after, any_refused}
@@ -285,12 +286,12 @@ module _ (before after : Outside) (tells : Bool) (left : List ℕ) (faults : ℕ
   opening_after InputLimit why after = why
   opening_after OutputFault why after = why
 
-  pub cause_opening : (outcome : Outcome) (stop : Stop) → outcome ≡ stopped_outcome 0 stop → IsOpeningStop stop → OnlyReads (is_disk_fault stop) before after
+  pub cause_opening : (outcome : Outcome) (stop : Stop) → outcome ≡ stopped_outcome 0 stop → IsOpeningStop stop → OnlyReads (is_disk_fault stop) before after → StopsSettled stop before after
       → (IsTrue before.tells_folder → (name : List ℕ) → stop ≡ Damaged name → IsFirstDamaged before.folder name)
       → HasCause (change_of before after) (asking run_words tells left) left faults faults outcome.stop
-  cause_opening outcome stop is why reads named =
+  cause_opening outcome stop is why reads settles named =
       let ends : Ends (change_of before after) (asking run_words tells left) (stopped_outcome 0 stop) =
-      ends_opening (change_of before after) (asking run_words tells left) (stopped_outcome 0 stop) stop refl why (reads_all (is_disk_fault stop) before after reads) in
+      ends_opening (change_of before after) (asking run_words tells left) (stopped_outcome 0 stop) stop refl (why, reads_all (is_disk_fault stop) before after reads, settles) in
       let cause : HasCause (change_of before after) (asking run_words tells left) left faults faults (Some stop) = record {
         usage = (λ e. absurd (opening_usage stop why e), λ none. absurd (is_run none));
         disk = reads.counts;

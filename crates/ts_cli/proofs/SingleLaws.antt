@@ -9,15 +9,16 @@ use Rattle.ts_store.specs.declared.stop.Kind.{Kind}
 use Rattle.ts_store.specs.declared.stop.Stop.{Stop}
 use Rattle.ts_store.specs.declared.stop.Stop.TheVariants.{Usage, Damaged, DiskFault, InputFault, OutputFault, InputLimit, Memory}
 use Rattle.ts_store.specs.FolderSays.{IsFirstDamaged}
+use Rattle.ts_store.specs.Safe.{SettlesAll, StopsSettled}
 use Rattle.ts_store.specs.State.{State}
 use Rattle.ts_store.specs.Step.{step_of}
 use Rattle.ts_store.specs.Stops.{IsOpeningStop, IsStepStop, is_disk_fault, is_output_fault, kind_of}
 use Rattle.ts_cli.specs.Asked.{AreCommands, AreRun, Asking, Asks, ReadInput}
 use Rattle.ts_cli.specs.Causes.{HasCause, IsOverLimit, LimitCause, UsageCause, is_input_fault}
 use Rattle.ts_cli.specs.Change.{Change, LeavesAll, change_of}
-use Rattle.ts_cli.specs.Ends.{ComesTo, Ends, IsEarly}
+use Rattle.ts_cli.specs.Ends.{ComesTo, Ends, IsEarly, IsUnsettled}
 use Rattle.ts_cli.specs.Outcomes.{HasStatus, IsAfterReading, IsReadingStop, ended_outcome, stopped_outcome}
-use Rattle.ts_cli.specs.Single.{ComesToStep, IsStepped}
+use Rattle.ts_cli.specs.Single.{ComesToStep, IsNotOpened, IsStepped}
 use Rattle.ts_cli.specs.Tally.{is_refused}
 use Rattle.ts_cli.specs.declared.outcome.Outcome.{Outcome}
 use Rattle.ts_cli.proofs.CauseLaws.{some_is}
@@ -73,6 +74,33 @@ early_opening words InputFault why = absurd why
 early_opening words InputLimit why = absurd why
 early_opening words OutputFault why = absurd why
 
+-- a stop that comes before the folder is opened comes before it is settled
+unsettled_first : (words : List (List ℕ)) → (AreRun words → ⊥) → (stop : Stop) → ComesFirst stop → IsUnsettled words stop
+unsettled_first words single Usage why = single
+unsettled_first words single InputFault why = single
+unsettled_first words single InputLimit why = single
+unsettled_first words single Memory why = single
+unsettled_first words single DiskFault why = tt
+unsettled_first words single (Damaged name) (inl is) = absurd (cc)
+unsettled_first words single (Damaged name) (inr is) = absurd is
+unsettled_first words single OutputFault (inl is) = absurd (cc)
+unsettled_first words single OutputFault (inr is) = absurd is
+
+-- at a stop of the opening the folder was settled, or nothing where the disk failed
+settled_or : (words : List (List ℕ)) (before after : Outside) (stop : Stop) → IsOpeningStop stop → StopsSettled stop before after
+    → IsTrue before.tells_images → (IsUnsettled words stop × (after.crash ≡ before.crash)) ⊎ SettlesAll before after
+settled_or words before after DiskFault why settles told = by_side (settles told)
+  where
+    by_side : (after.crash ≡ before.crash) ⊎ SettlesAll before after → (IsUnsettled words DiskFault × (after.crash ≡ before.crash)) ⊎ SettlesAll before after
+    by_side (inl same) = inl (tt, same)
+    by_side (inr all) = inr all
+settled_or words before after (Damaged name) why settles told = inr (settles told)
+settled_or words before after Memory why settles told = inr (settles told)
+settled_or words before after Usage why settles told = absurd why
+settled_or words before after InputFault why settles told = absurd why
+settled_or words before after InputLimit why settles told = absurd why
+settled_or words before after OutputFault why settles told = absurd why
+
 -- it was asked for, and is all that is
 asked_all : (a : Asking) (asked : Command) → Asks a asked → IsTrue a.tells → AreCommands a.words a.left (asked ∷ [])
 asked_all a asked (lines, is, from) tells = inr (asked, subst (λ (ls : List (List ℕ)). IsCommand a.words 0 ls asked) (from tells) is, refl)
@@ -83,16 +111,28 @@ kind_refused kind false is = ap is_refused is
 
 module _ (s : Change) (a : Asking) where
   -- a stop before the folder was opened
-  pub ends_first : (outcome : Outcome) (stop : Stop) → outcome ≡ stopped_outcome 0 stop → (AreRun a.words → ⊥) → ComesFirst stop → LeavesAll s → Ends s a outcome
-  ends_first outcome stop is single why all = inl (record { stop = stop; outcome_is = is; early = early_first a.words single stop why; all = all })
+  pub ends_first : (outcome : Outcome) (stop : Stop) → outcome ≡ stopped_outcome 0 stop → (AreRun a.words → ⊥) → ComesFirst stop → LeavesAll s → s.after.crash ≡ s.before.crash → Ends s a outcome
+  ends_first outcome stop is single why all same = inl (record {
+    stop = stop;
+    outcome_is = is;
+    early = early_first a.words single stop why;
+    all = all;
+    settles = λ told. inl (unsettled_first a.words single stop why, same);
+  })
 
   -- a stop of the opening
-  pub ends_opening : (outcome : Outcome) (stop : Stop) → outcome ≡ stopped_outcome 0 stop → IsOpeningStop stop → LeavesAll s → Ends s a outcome
-  ends_opening outcome stop is why all = inl (record { stop = stop; outcome_is = is; early = early_opening a.words stop why; all = all })
+  pub ends_opening : (outcome : Outcome) (stop : Stop) → outcome ≡ stopped_outcome 0 stop → IsNotOpened s stop → Ends s a outcome
+  ends_opening outcome stop is (why, all, settles) = inl (record {
+    stop = stop;
+    outcome_is = is;
+    early = early_opening a.words stop why;
+    all = all;
+    settles = settled_or a.words s.before s.after stop why settles;
+  })
 
   module _ (asked : Command) (asks : Asks a asked) where
     pub ends_stopped : (outcome : Outcome) (stop : Stop) → outcome ≡ stopped_outcome 0 stop → ComesToStep s asked (Err stop) → Ends s a outcome
-    ends_stopped outcome stop is (inl (why, all)) = ends_opening outcome stop is why all
+    ends_stopped outcome stop is (inl closed) = ends_opening outcome stop is closed
     ends_stopped outcome stop is (inr (why, (state, does))) =
         let then = change_of does.opened s.after in
         let comes : ComesTo then a (stopped_outcome 0 stop) state [] = record {
@@ -177,7 +217,7 @@ module _ (a : Asking) (single : AreRun a.words → ⊥) (stop : Stop) (why : Com
       → (IsTrue a.tells → stop ≡ InputLimit → IsOverLimit a.left left_after) → CountsFault (is_input_fault stop) faults faults_after
       → HasCause (change_of o o) a left_after faults faults_after outcome.stop
   cause_first o outcome is left_after faults faults_after usage none read over counts =
-      let ends : Ends (change_of o o) a (stopped_outcome 0 stop) = ends_first (change_of o o) a (stopped_outcome 0 stop) stop refl single why (no_change o) in
+      let ends : Ends (change_of o o) a (stopped_outcome 0 stop) = ends_first (change_of o o) a (stopped_outcome 0 stop) stop refl single why (no_change o) refl in
       let cause : HasCause (change_of o o) a left_after faults faults_after (Some stop) = record {
         usage = usage_first usage none;
         disk = subst (λ (b : Bool). CountsFault b o.disk_faults o.disk_faults) (sym (no_disk stop why)) refl;

@@ -1,32 +1,39 @@
 -- Steps one after another: what was told, and what the folder tells and stands for behind them.
 use Rattle.std.proofs.Common.{◌≡◌, ℕ, Bool, List, [], ◌∷◌, ◌++◌, length, IsTrue, IfOk, Result, Ok, Err, refl, sym, ap, ◌∙◌, subst, append-nil, append_assoc}
+use Rattle.ts_site.specs.Crash.{CrashState}
 use Rattle.ts_site.specs.Folder.{Folder}
 use Rattle.ts_site.specs.Outside.{OnlyReads, Outside}
+use Rattle.ts_site.proofs.CrashLemmas.{adds_none, adds_none_more}
 use Rattle.ts_site.proofs.GoesLemmas.{adds_more, adds_nothing}
 use Rattle.ts_script.specs.declared.command.Command.{Command}
 use Rattle.ts_store.specs.declared.stop.Kind.{Kind}
 use Rattle.ts_store.specs.declared.stop.Stop.{Stop}
 use Rattle.ts_store.specs.FolderSays.{FolderSays}
 use Rattle.ts_store.specs.Leaves.{LeavesFolder, LeavesTold}
+use Rattle.ts_store.specs.Safe.{LeavesCrash}
 use Rattle.ts_store.specs.Stands.{Stands}
 use Rattle.ts_store.specs.State.{State}
 use Rattle.ts_store.specs.Step.{step_of}
 use Rattle.ts_store.specs.Steps.{after, answers}
 use Rattle.ts_store.specs.Stops.{KeepsTelling}
 use Rattle.ts_cli.specs.Change.{LeavesAll, change_of}
-use Rattle.ts_cli.specs.Ends.{AreDone, StepsFrom}
-use Rattle.ts_cli.proofs.SafeLaws.{safe_after}
+use Rattle.ts_cli.specs.Ends.{AreDone, ChangesOnce, StepsFrom}
+use Rattle.ts_cli.proofs.SafeLaws.{safe_after, still_honest}
 use Rattle.ts_store.proofs.TellsLaws.{step_tells}
 
 pub telling_on : {a b c : Outside} → KeepsTelling a b → KeepsTelling b c → KeepsTelling a c
-telling_on first second = record { folder = second.folder ∙ first.folder; output = second.output ∙ first.output }
+telling_on first second = record { folder = second.folder ∙ first.folder; output = second.output ∙ first.output; images = second.images ∙ first.images }
 
 pub no_change : (a : Outside) → LeavesAll (change_of a a)
-no_change a = record { folder = λ _. refl; told = refl; telling = record { folder = refl; output = refl }; images = adds_nothing a }
+no_change a = record { folder = λ _. refl; told = refl; telling = record { folder = refl; output = refl; images = refl }; images = adds_nothing a }
 
 -- opening the folder
 pub reads_all : (is_fault : Bool) (before after : Outside) → OnlyReads is_fault before after → LeavesAll (change_of before after)
-reads_all is_fault before after reads = record { folder = reads.folder; told = reads.output.same_told; telling = record { folder = reads.telling; output = reads.output.same_telling }; images = reads.images }
+reads_all is_fault before after reads = record { folder = reads.folder; told = reads.output.same_told; telling = record { folder = reads.telling; output = reads.output.same_telling; images = reads.images.telling }; images = reads.images }
+
+-- one file was changed at most
+pub changes_once : (answer : Result Kind Stop) (old new : CrashState) → LeavesCrash answer old new → ChangesOnce answer old new
+changes_once answer old new leaves = (old, adds_none old, leaves)
 
 told_then : {a b : Bool} → b ≡ a → IsTrue a → IsTrue b
 told_then same told = subst (λ (t : Bool). IsTrue t) (sym same) told
@@ -52,6 +59,9 @@ step_after a b c told_folder all state asked answer does =
       says_after = does.says_after;
       stands_after = λ stands. does.stands_after (subst (λ (f : Folder). Stands f state) (sym same) stands);
       telling = telling_on all.telling does.telling;
+      crash = λ honest.
+          let (middle, adds, changes) = does.crash (still_honest a b all honest) in
+          (middle, adds_none_more a.crash b.crash middle (all.images.now honest.images) adds, changes);
       safe = λ at. safe_after a b state all at (step_of state asked) (step_tells state asked) c answer does.safe;
     }
 

@@ -1,6 +1,6 @@
 -- What a crash leaves at any moment of a run.
-use Rattle.std.specs.Prelude.{◌≡◌, ◌⊎◌, ℕ, ◌+◌, ◌<◌, ◌≤◌, List, ◌++◌, length, take, Option, None, Some}
-use Rattle.ts_site.specs.Crash.{AddsNone, CrashState, EachImage}
+use Rattle.std.specs.Prelude.{◌≡◌, ◌⊎◌, ℕ, ◌+◌, ◌<◌, ◌≤◌, List, ◌++◌, length, take, Some}
+use Rattle.ts_site.specs.Crash.{AddsNone, CrashState, EachImage, settled}
 use Rattle.ts_site.specs.Moments.{GoesOn, Moment}
 use Rattle.ts_site.specs.Outside.{Outside, moments_of}
 use Rattle.ts_script.specs.declared.command.Command.{Command}
@@ -9,7 +9,7 @@ use Rattle.ts_store.specs.Stands.{Stands}
 use Rattle.ts_store.specs.State.{State}
 use Rattle.ts_store.specs.Steps.{after, answer_at, answers}
 use Rattle.ts_cli.specs.declared.outcome.Outcome.{Outcome}
-use Rattle.ts_cli.specs.Ends.{IsEarly}
+use Rattle.ts_cli.specs.Ends.{IsUnsettled}
 
 -- a crash leaves a folder that stands for the state after so many commands, or after one more
 abbrev pub LeavesAfter : State → List Command → ℕ → CrashState → Type 0
@@ -30,15 +30,24 @@ pub record IsOpeningMoment (old : Outside) (moment : Moment) : Type 0 where
   pub told : moment.told ≡ old.told
   pub adds : AddsNone moment.crash old.crash
 
--- the outcome tells that the folder was opened
-abbrev pub TellsOpened : List (List ℕ) → ℕ → Option Stop → Type 0
-TellsOpened words done None = Unit {0}
-TellsOpened words done (Some stop) = (IsEarly words stop → ⊥) ⊎ (1 ≤ done)
+-- The run stopped before the folder was settled: no command was done, and at each moment and now a crash leaves what one before the
+-- run might have left.
+pub record StopsUnsettled (words : List (List ℕ)) (outcome : Outcome) (old new : Outside) : Type 0 where
+  pub stop : Stop
+  pub stops : outcome.stop ≡ Some stop
+  pub unsettled : IsUnsettled words stop
+  pub none : outcome.done ≡ 0
+  pub now : new.crash ≡ old.crash
+  pub moments : GoesOn (IsOpeningMoment old) (moments_of old) (moments_of new)
 
--- The moments until the folder is open, and then those of the commands. At the end, if the folder was opened, a crash leaves a folder that
--- stands for the state after the commands that were done, or after one more.
-pub record LeavesPrefixes (words : List (List ℕ)) (outcome : Outcome) (state : State) (commands : List Command) (old new : Outside) : Type 0 where
-  pub opened : List Moment
-  pub opening : GoesOn (IsOpeningMoment old) (moments_of old) opened
-  pub steps : GoesOn (IsPrefixMoment state commands old.told) opened (moments_of new)
-  pub at_end : TellsOpened words outcome.done outcome.stop → LeavesAfter state commands outcome.done new.crash
+-- The folder was settled in the middle, when a crash leaves just what reads: the moments until then, and then those of the commands. Now
+-- a crash leaves a folder that stands for the state after the commands that were done, or after one more.
+pub record LeavesPrefixes (outcome : Outcome) (state : State) (commands : List Command) (old new : Outside) : Type 0 where
+  pub middle : Outside
+  pub settles : middle.crash ≡ settled old.folder
+  pub opening : GoesOn (IsOpeningMoment old) (moments_of old) (moments_of middle)
+  pub steps : GoesOn (IsPrefixMoment state commands old.told) (moments_of middle) (moments_of new)
+  pub now : LeavesAfter state commands outcome.done new.crash
+
+abbrev pub IsCrashSafe : List (List ℕ) → Outcome → State → List Command → Outside → Outside → Type 0
+IsCrashSafe words outcome state commands old new = StopsUnsettled words outcome old new ⊎ LeavesPrefixes outcome state commands old new

@@ -1,14 +1,14 @@
 -- What a run leaves of a folder that is told, and of the output.
 use Rattle.std.specs.Prelude.{◌≡◌, ◌⊎◌, ℕ, if◌then◌else◌, List, [], ◌∷◌, ◌++◌, length, IsTrue, Option, None, Some, MatchOption, Result, Ok, Err, IfOk}
-use Rattle.ts_site.specs.Crash.{AddsNone, settled}
-use Rattle.ts_site.specs.Outside.{Outside}
+use Rattle.ts_site.specs.Crash.{AddsNone, CrashState}
+use Rattle.ts_site.specs.Outside.{Outside, IsHonest}
 use Rattle.ts_script.specs.declared.command.Command.{Command}
 use Rattle.ts_store.specs.declared.stop.Kind.{Kind}
 use Rattle.ts_store.specs.declared.stop.Stop.{Stop}
 use Rattle.ts_store.specs.declared.stop.Stop.TheVariants.{Usage, Damaged, DiskFault, InputFault, OutputFault, InputLimit, Memory}
 use Rattle.ts_store.specs.FolderSays.{FolderSays}
 use Rattle.ts_store.specs.Leaves.{LeavesFolder, LeavesState, LeavesTold}
-use Rattle.ts_store.specs.Safe.{IsSafe, IsSettledAt}
+use Rattle.ts_store.specs.Safe.{IsSafe, IsSettledAt, LeavesCrash, SettlesAll}
 use Rattle.ts_store.specs.Stands.{Stands}
 use Rattle.ts_store.specs.State.{IsFresh, State}
 use Rattle.ts_store.specs.Step.{step_of}
@@ -19,9 +19,14 @@ use Rattle.ts_cli.specs.Asked.{AreCommands, AreGiven, AreRun, Asking}
 use Rattle.ts_cli.specs.Change.{Change, LeavesAll, change_of}
 use Rattle.ts_cli.specs.Outcomes.{stop_status, stopped_outcome}
 
+-- A crash leaves what one file's change makes of a state in which it leaves nothing new.
+abbrev pub ChangesOnce : Result Kind Stop → CrashState → CrashState → Type 0
+ChangesOnce answer old new = (middle : CrashState) × AddsNone middle old × LeavesCrash answer middle new
+
 -- The folder tells the state, and the step of the command from it was answered so: the answer is that of the step, its reply was
 -- said whole, and the folder follows the state and tells, or stands for, the one after it. What a stop leaves of the reply, the
--- folder and the state is said by the same tables. Where a crash leaves a folder that stands for the state, each moment of the step is safe.
+-- folder and the state is said by the same tables. One file was changed at most, and nothing was done after a fault. Where a crash leaves a
+-- folder that stands for the state, each moment of the step is safe.
 pub record StepsFrom (s : Change) (state : State) (asked : Command) (answer : Result Kind Stop) : Type 0 where
   pub says : FolderSays s.before.folder state
   pub kind : IfOk answer (λ kind. kind ≡ kind_of (step_of state asked).refused)
@@ -30,6 +35,7 @@ pub record StepsFrom (s : Change) (state : State) (asked : Command) (answer : Re
   pub says_after : LeavesState (FolderSays s.after.folder) answer state (step_of state asked).state
   pub stands_after : Stands s.before.folder state → LeavesState (Stands s.after.folder) answer state (step_of state asked).state
   pub telling : KeepsTelling s.before s.after
+  pub crash : IsHonest s.before → ChangesOnce answer s.before.crash s.after.crash
   pub safe : IsSettledAt Stands state s.before → IsSafe Stands state (step_of state asked) answer s.before s.after
 
 -- the commands were done one after another, each from the state that those before it left
@@ -57,10 +63,10 @@ EndsAfter s a state done (Some stop) =
     (AreRun a.words × IsBetween stop × AreGiven a done × LeavesAll s)
     ⊎ ((asked : Command) × AreGiven a (done ++ asked ∷ []) × IsStepStop stop × StepsFrom s (after state done (length done)) asked (Err stop))
 
--- The folder was opened: all is as it was, and a crash leaves just what reads.
+-- The folder was opened: all is as it was, and from a moment on a crash leaves just what reads.
 pub record Opens (before opened : Outside) : Type 0 where
   pub all : LeavesAll (change_of before opened)
-  pub settles : IsTrue before.tells_images → AddsNone opened.crash (settled before.folder)
+  pub settles : IsTrue before.tells_images → SettlesAll before opened
 
 -- The open folder tells the state, in which this run has opened no cursor and made no layer yet. These commands were done, and the run ended
 -- behind them.
@@ -90,12 +96,23 @@ IsEarly words DiskFault = Unit {0}
 IsEarly words Memory = Unit {0}
 IsEarly words OutputFault = ⊥
 
--- the run stopped so, and left all as it was
+-- Those of them that may come before the folder is settled: a command is read then, and the barrier may fail.
+abbrev pub IsUnsettled : List (List ℕ) → Stop → Type 0
+IsUnsettled words Usage = AreRun words → ⊥
+IsUnsettled words InputFault = AreRun words → ⊥
+IsUnsettled words InputLimit = AreRun words → ⊥
+IsUnsettled words Memory = AreRun words → ⊥
+IsUnsettled words DiskFault = Unit {0}
+IsUnsettled words (Damaged name) = ⊥
+IsUnsettled words OutputFault = ⊥
+
+-- the run stopped so, left all as it was, and settled the folder before or nothing
 pub record StopsEarly (s : Change) (words : List (List ℕ)) (outcome : Outcome) : Type 0 where
   pub stop : Stop
   pub outcome_is : outcome ≡ stopped_outcome 0 stop
   pub early : IsEarly words stop
   pub all : LeavesAll s
+  pub settles : IsTrue s.before.tells_images → (IsUnsettled words stop × (s.after.crash ≡ s.before.crash)) ⊎ SettlesAll s.before s.after
 
 -- the run left all as it was, or came to the commands that are asked for
 abbrev pub Ends : Change → Asking → Outcome → Type 0

@@ -10,7 +10,7 @@ ghost use Rattle.ts_store.specs.Stops.{KeepsTelling};
 ghost use Rattle.ts_cli.specs.Asked.{AreCommands, AreNoWords, AreRun, ReadInput, asking};
 ghost use Rattle.ts_cli.specs.Causes.{HasCause};
 ghost use Rattle.ts_cli.specs.Change.{change_of};
-ghost use Rattle.ts_cli.specs.Crash.{LeavesPrefixes};
+ghost use Rattle.ts_cli.specs.Crash.{IsCrashSafe};
 ghost use Rattle.ts_cli.specs.Ends.{Ends};
 ghost use Rattle.ts_cli.specs.Headline.{StandsAfter, TellsReplies};
 ghost use Rattle.ts_cli.specs.Outcomes.{HasStatus, IsAfterReading, IsReadingStop};
@@ -50,11 +50,11 @@ pub fn run<W: Site, S: Source>(
         → IsTrue (S.tells input.old) → AreCommands (map string_bytes words.now) (S.left input.old) commands
         → StandsAfter result state commands (W.outside site.new).folder }
 
-    // A crash at any moment, once the folder is open, leaves a folder that stands for the state after the commands whose replies were
+    // A crash at any moment, once the folder is settled, leaves a folder that stands for the state after the commands whose replies were
     // told whole by then, or after one more. Before, it leaves what a crash before the run might have left.
     ensures crash { (state : State) (commands : List Command) → IsFresh state → IsHonest (W.outside site.old) → Stands (W.outside site.old).folder state
         → IsTrue (S.tells input.old) → AreCommands (map string_bytes words.now) (S.left input.old) commands
-        → LeavesPrefixes (map string_bytes words.now) result state commands (W.outside site.old) (W.outside site.new) }
+        → IsCrashSafe (map string_bytes words.now) result state commands (W.outside site.old) (W.outside site.new) }
 
     // Each stop but want of memory comes exactly for its cause. Where nothing fails, there is none but want of memory.
     ensures causes { HasCause (change_of (W.outside site.old) (W.outside site.new)) (asking (map string_bytes words.now) (S.tells input.old) (S.left input.old))

@@ -12,8 +12,8 @@ struct Change<'a> {
     input: &'a str,
     /// The reply.
     told: &'a str,
-    /// A script that asks what stands and then makes a base, and its replies before the change and after it.
-    asked: &'a str,
+    /// Words that ask what stands, and the replies to them and then to a base, before the change and after it.
+    asked: &'a [&'a str],
     old: &'a str,
     new: &'a str,
 }
@@ -33,7 +33,7 @@ const COMMIT: Change<'static> = Change {
     words: &["commit", "00000001"],
     input: "<c> <p> <d> .\n",
     told: "layer 00000002\n",
-    asked: "layers\nbase\n<e> <p> <f> .\nend\n",
+    asked: &["layers"],
     old: "layer 00000001 parent none\ntotal 1\nlayer 00000002\n",
     new: "layer 00000001 parent none\nlayer 00000002 parent 00000001\ntotal 2\nlayer 00000003\n",
 };
@@ -43,7 +43,7 @@ const SQUASH: Change<'static> = Change {
     words: &["squash", "00000002"],
     input: "",
     told: "layer 00000003\n",
-    asked: "layers\nbase\n<e> <p> <f> .\nend\n",
+    asked: &["layers"],
     old: "layer 00000001 parent none\nlayer 00000002 parent 00000001\ntotal 2\nlayer 00000003\n",
     new: "layer 00000001 parent none\nlayer 00000002 parent 00000001\nlayer 00000003 parent none\ntotal 3\nlayer 00000004\n",
 };
@@ -53,7 +53,7 @@ const LABEL_NEW: Change<'static> = Change {
     words: &["label", "new", "side"],
     input: "",
     told: "label side 0 none\n",
-    asked: "labels\nbase\n<e> <p> <f> .\nend\n",
+    asked: &["labels"],
     old: "label main 1 00000002\ntotal 1\nlayer 00000003\n",
     new: "label main 1 00000002\nlabel side 0 none\ntotal 2\nlayer 00000003\n",
 };
@@ -63,7 +63,7 @@ const LABEL_SET: Change<'static> = Change {
     words: &["label", "set", "main", "1", "00000001"],
     input: "",
     told: "label main 2 00000001\n",
-    asked: "labels\nbase\n<e> <p> <f> .\nend\n",
+    asked: &["labels"],
     old: "label main 1 00000002\ntotal 1\nlayer 00000003\n",
     new: "label main 2 00000001\ntotal 1\nlayer 00000003\n",
 };
@@ -93,16 +93,17 @@ fn status_of(
     Ok(run_words(alloc, words, site, &mut source)?.status)
 }
 
-/// Whether the folder answers so, and then goes on so.
+/// Whether the folder answers so, and then takes a base, each in a run of its own.
 fn answers(
     alloc: Global,
     left: &mut MemorySite,
     change: &Change<'_>,
     changed: bool,
 ) -> Result<bool, Fail> {
-    let status = status_of(alloc, left, &["run"], change.asked)?;
+    let asked = status_of(alloc, left, change.asked, "")?;
+    let made = status_of(alloc, left, &["base"], "<e> <p> <f> .\n")?;
     let wanted = if changed { change.new } else { change.old };
-    Ok(status == 0 && left.told() == wanted.as_bytes())
+    Ok(asked == 0 && made == 0 && left.told() == wanted.as_bytes())
 }
 
 /// Whether a change that is stopped after so many calls, and each crash then, leaves what it is to leave.

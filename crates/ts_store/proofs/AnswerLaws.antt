@@ -15,8 +15,8 @@ use Rattle.ts_store.specs.FolderSays.{FolderSays}
 use Rattle.ts_store.specs.Leaves.{LeavesFolder, LeavesState}
 use Rattle.ts_store.specs.State.{State}
 use Rattle.ts_store.specs.Stepped.{Stepped, at_found, does, refuses}
-use Rattle.ts_store.specs.Stops.{IsStepStop, is_disk_fault, kind_of}
-use Rattle.ts_store.proofs.SafeLaws.{safe_said}
+use Rattle.ts_store.specs.Stops.{IsStepStop, is_disk_fault, is_output_fault, kind_of}
+use Rattle.ts_store.proofs.SafeLaws.{one_file_said, safe_said}
 
 -- ---- the output's failures are query stops
 
@@ -100,7 +100,9 @@ module _ (state : State) (cursors : Cursors) (text : List ℕ) (refused : Bool) 
     why = step_stop result why;
     disk = no_disk_fault result why answers.says.disk.same_faults;
     say = answers.says.counts;
-    telling = record { folder = answers.says.disk.same_telling; output = answers.says.telling };
+    telling = record { folder = answers.says.disk.same_telling; output = answers.says.telling; images = answers.says.images.telling };
+    crash = λ honest. inl (answers.says.images.now honest.images);
+    one_file = one_file_said (is_err_and is_output_fault result) old new answers.says;
     safe = λ at. safe_said state next text refused result old new answers (λ image says. image_next image says) at;
   }
 

@@ -22,11 +22,11 @@ use Rattle.ts_script.specs.declared.reply.Reply.TheVariants as reply
 use Rattle.ts_script.specs.declared.reply.Refusal.TheVariants as refusal
 use Rattle.ts_site.specs.Faults.{CountsFault, is_err_and}
 use Rattle.ts_site.specs.Folder.{Folder}
-use Rattle.ts_replace.specs.CrashSafe.{LeavesFolder as CrashLeaves}
-use Rattle.ts_site.specs.Outside.{IsHonest, Outside}
+use Rattle.ts_replace.specs.CrashSafe.{LeavesFolder as CrashLeaves, ReplacesCrash}
+use Rattle.ts_site.specs.Outside.{IsHonest, OnlySays, Outside}
 use Rattle.ts_site.proofs.GoesLemmas.{says_nothing}
-use Rattle.ts_store.specs.Safe.{ChangesSafely}
-use Rattle.ts_store.proofs.SafeLaws.{safe_change, safe_nothing}
+use Rattle.ts_store.specs.Safe.{ChangesSafely, change_result}
+use Rattle.ts_store.proofs.SafeLaws.{one_file_changed, one_file_said, safe_change, safe_nothing}
 use Rattle.ts_site.proofs.FolderLemmas.{get-insert_same, get-insert_other, get-remove_other}
 use Rattle.ts_store.specs.declared.stop.Stop.{Stop}
 use Rattle.ts_store.specs.declared.stop.Stop.TheVariants.{DiskFault, OutputFault, Memory}
@@ -51,6 +51,9 @@ use Rattle.ts_store.proofs.NextLaws.{history_of-next}
 
 -- ---- where memory runs out
 
+pub only_nothing : (outside : Outside) → OnlySays false outside outside
+only_nothing outside = record { telling = refl; counts = refl; disk = record { same_telling = refl; same_folder = refl; same_faults = refl }; images = says_nothing outside }
+
 -- nothing is done and nothing said
 pub does_nothing : (before : State) (stepped : Stepped) (after : State) (outside : Outside) → 0 < length stepped.told → Does before stepped (Err Memory) after outside outside
 does_nothing before stepped after outside longer = record {
@@ -58,11 +61,13 @@ does_nothing before stepped after outside longer = record {
   told = λ _. (0, longer, inl refl, sym (append-nil outside.told));
   folder = λ _. refl;
   tells_state = λ _ says. says;
-  refused = λ _. record { telling = refl; counts = refl; disk = record { same_telling = refl; same_folder = refl; same_faults = refl }; images = says_nothing outside };
+  refused = λ _. only_nothing outside;
   why = tt;
   disk = refl;
   say = refl;
-  telling = record { folder = refl; output = refl };
+  telling = record { folder = refl; output = refl; images = refl };
+  crash = λ honest. inl refl;
+  one_file = one_file_said false outside outside (only_nothing outside);
   safe = λ at. safe_nothing before stepped Memory outside at;
 }
 
@@ -265,6 +270,7 @@ module _ (layers : List PlainLayer) (labels : Labels) (cursors : Cursors) (last 
       (disk : CountsFault (is_err_and is_disk_fault result) old.disk_faults new.disk_faults)
       (say : CountsFault (is_err_and is_output_fault result) old.say_faults new.say_faults)
       (telling : KeepsTelling old new)
+      (crash : IsHonest old → ReplacesCrash (change_result result) (layer_name layer.number) file old.crash new.crash)
       (safe : IsHonest old → CrashLeaves old.folder old.crash → ChangesSafely result (layer_name layer.number) file (reply_text (reply.Layer layer.number)) old new) where
     -- the reply tells the number that the layer has
     safe_numbered : IsHonest old → CrashLeaves old.folder old.crash → ChangesSafely result (layer_name layer.number) file (reply_text (reply.Layer (next_number (history_of layers)))) old new
@@ -281,6 +287,8 @@ module _ (layers : List PlainLayer) (labels : Labels) (cursors : Cursors) (last 
       disk = disk;
       say = say;
       telling = telling;
+      crash = λ honest. inr (layer_name layer.number, file, crash honest);
+      one_file = one_file_changed (layer_name layer.number) file (reply_text (reply.Layer layer.number)) result old new safe;
       safe = λ at.
           safe_change before next_state (layer_name layer.number) file (reply_text (reply.Layer (next_number (history_of layers)))) result old new
           (longer_line (codes "layer " ++ layer_text (next_number (history_of layers)))) (λ says. says_put old.folder (replaced old.folder (layer_name layer.number) file) says refl)

@@ -16,12 +16,12 @@ use Rattle.ts_replace.specs.Names.{layer_name, rollup_name, label_file_name}
 use Rattle.ts_replace.specs.Replaced.{new_tmp, replaced}
 use Rattle.ts_site.specs.Faults.{CountsFault, is_err_and}
 use Rattle.ts_site.specs.Folder.{Folder}
-use Rattle.ts_replace.specs.CrashSafe.{LeavesFolder as CrashLeaves}
+use Rattle.ts_replace.specs.CrashSafe.{LeavesFolder as CrashLeaves, ReplacesCrash}
 use Rattle.ts_site.specs.Outside.{IsHonest, Outside}
-use Rattle.ts_store.specs.Safe.{ChangesSafely}
+use Rattle.ts_store.specs.Safe.{ChangesSafely, change_result}
 use Rattle.ts_script.specs.declared.reply.Reply.TheVariants.{LabelIs}
 use Rattle.ts_store.proofs.PrefixLaws.{reply_is_longer}
-use Rattle.ts_store.proofs.SafeLaws.{safe_change}
+use Rattle.ts_store.proofs.SafeLaws.{one_file_changed, safe_change}
 use Rattle.ts_site.proofs.FolderLemmas.{get-insert_same, get-insert_other, get-remove_other, is_same, is_same-itself, same_name}
 use Rattle.ts_script.specs.Replies.{refusal_text}
 use Rattle.ts_script.specs.declared.command.LayerRef.{LayerRef}
@@ -96,6 +96,7 @@ module _ (before : State) (name : List ℕ) (label : Label) (is : IsLabelOf befo
     (disk : CountsFault (is_err_and is_disk_fault result) old.disk_faults new.disk_faults)
     (say : CountsFault (is_err_and is_output_fault result) old.say_faults new.say_faults)
     (telling : KeepsTelling old new)
+    (crash : IsHonest old → ReplacesCrash (change_result result) (label_file_name name) (label_text label) old.crash new.crash)
     (safe : IsHonest old → CrashLeaves old.folder old.crash → ChangesSafely result (label_file_name name) (label_text label) (label_line name label) old new) where
   abbrev next : State
   next = with_label before name label
@@ -121,6 +122,8 @@ module _ (before : State) (name : List ℕ) (label : Label) (is : IsLabelOf befo
     disk = disk;
     say = say;
     telling = telling;
+    crash = λ honest. inr (label_file_name name, label_text label, crash honest);
+    one_file = one_file_changed (label_file_name name) (label_text label) (label_line name label) result old new safe;
     safe = λ at.
         safe_change before next (label_file_name name) (label_text label) (label_line name label) result old new (reply_is_longer (LabelIs name label.version label.layer))
         (λ says. says_label before name label is old.folder says) (folder at.honest.folder) (safe at.honest at.leaves) at;
@@ -177,12 +180,13 @@ module _ (layers : List PlainLayer) (labels : Labels) (cursors : Cursors) (last 
       → (IsTrue old.tells_folder → LeavesReplaced result (label_file_name name) (label_text label) old.folder new.folder)
       → IfErr result (λ stop. (stop ≡ DiskFault) ⊎ (stop ≡ OutputFault))
       → CountsFault (is_err_and is_disk_fault result) old.disk_faults new.disk_faults → CountsFault (is_err_and is_output_fault result) old.say_faults new.say_faults → KeepsTelling old new
+      → (IsHonest old → ReplacesCrash (change_result result) (label_file_name name) (label_text label) old.crash new.crash)
       → (IsHonest old → CrashLeaves old.folder old.crash → ChangesSafely result (label_file_name name) (label_text label) (label_line name label) old new)
       → Does state (step_of state (LabelNew name)) result (state_of layers after cursors last) old new
-  does_made old new told folder why disk say telling safe =
+  does_made old new told folder why disk say telling crash safe =
       subst (λ (r : Result Label LabelError). Does state (puts state name r) result (state_of layers after cursors last) old new)
       (sym (ap (λ (s : State). made_label (get s.labels name)) (sym view_is) ∙ made))
-      (does_put state name label made_label_is (λ f. made_other (get labels name) label made (ap (λ (s : State). get s.labels name) view_is ∙ f)) (state_of layers after cursors last) result old new (kept_after layers labels cursors last state view_is sound name label after result put) told folder why disk say telling safe)
+      (does_put state name label made_label_is (λ f. made_other (get labels name) label made (ap (λ (s : State). get s.labels name) view_is ∙ f)) (state_of layers after cursors last) result old new (kept_after layers labels cursors last state view_is sound name label after result put) told folder why disk say telling crash safe)
 
 -- ---- a label that is moved
 
@@ -224,8 +228,9 @@ module _ (layers : List PlainLayer) (labels : Labels) (cursors : Cursors) (last 
         → (IsTrue old.tells_folder → LeavesReplaced result (label_file_name name) (label_text label) old.folder new.folder)
         → IfErr result (λ stop. (stop ≡ DiskFault) ⊎ (stop ≡ OutputFault))
         → CountsFault (is_err_and is_disk_fault result) old.disk_faults new.disk_faults → CountsFault (is_err_and is_output_fault result) old.say_faults new.say_faults → KeepsTelling old new
+        → (IsHonest old → ReplacesCrash (change_result result) (label_file_name name) (label_text label) old.crash new.crash)
         → (IsHonest old → CrashLeaves old.folder old.crash → ChangesSafely result (label_file_name name) (label_text label) (label_line name label) old new)
         → Does state (step_of state (LabelSet name version to)) result (state_of layers after cursors last) old new
-    does_move old new told folder why disk say telling safe =
+    does_move old new told folder why disk say telling crash safe =
         step_moved (Ok label) result (state_of layers after cursors last) old new moved
-        (does_put state name label moved_label_is other_moved (state_of layers after cursors last) result old new (kept_after layers labels cursors last state view_is sound name label after result put) told folder why disk say telling safe)
+        (does_put state name label moved_label_is other_moved (state_of layers after cursors last) result old new (kept_after layers labels cursors last state view_is sound name label after result put) told folder why disk say telling crash safe)

@@ -1,17 +1,17 @@
 -- What a crash leaves of a step, of a change of one file that is told, and of the opening.
-use Rattle.std.proofs.Common.{◌≡◌, ◌⊎◌, ℕ, ◌<◌, ◌≤◌, Bool, true, false, true≢false, List, [], ◌∷◌, ◌++◌, length, take, Option, None, IsTrue, Result, Ok, Err, is_err, inl, inr, refl, sym, ap, ◌∙◌, subst, arith, append-nil, append_assoc, length-append}
-use Rattle.std.specs.Prelude.{MatchOption, OnOk, Contains}
+use Rattle.std.proofs.Common.{◌≡◌, ◌⊎◌, ℕ, ◌<◌, ◌≤◌, Bool, true, false, true≢false, List, [], ◌++◌, length, take, Option, None, IsTrue, Result, Ok, Err, is_err, inl, inr, sym, ap, ◌∙◌, subst, arith, append-nil, append_assoc, length-append}
+use Rattle.std.specs.Prelude.{MatchOption, IfErr, OnOk}
 use Rattle.std.proofs.lemmas.List.{append_cancel_left, length-take, take-append-le, take-take, take_all}
 use Rattle.std.specs.Option.{is_some}
 use Rattle.std.specs.FinMap.{get}
-use Rattle.ts_replace.specs.CrashSafe.{AgreesBut, LeavesFolder, LeavesEither, ReplacesSafely}
+use Rattle.ts_replace.specs.CrashSafe.{AgreesBut, LeavesFolder, LeavesEither, ReplacesCrash, ReplacesSafely}
 use Rattle.ts_replace.specs.Names.{layer_name, rollup_name, label_file_name}
 use Rattle.ts_replace.specs.Replaced.{new_tmp, replaced}
 use Rattle.ts_site.specs.Crash.{CrashState, AddsNone, EachImage, IsImage, is_loose, settled}
 use Rattle.ts_site.specs.Faults.{is_err_and}
 use Rattle.ts_site.specs.Folder.{Extends, Folder}
 use Rattle.ts_site.specs.Moments.{Moment}
-use Rattle.ts_site.specs.Outside.{Outside, IsHonest, AddsNoImage, moments_of}
+use Rattle.ts_site.specs.Outside.{Outside, IsHonest, AddsNoImage, OnlyReads, OnlySays, moments_of}
 use Rattle.ts_site.proofs.CrashLemmas.{only_one}
 use Rattle.ts_site.proofs.GoesLemmas.{goes_more, goes_none, goes_weaker, honest_says}
 use Rattle.ts_store.specs.declared.stop.Stop.{Stop}
@@ -21,7 +21,7 @@ use Rattle.ts_store.specs.Does.{Answers}
 use Rattle.ts_store.specs.FolderSays.{FolderSays, IsFileOf, IsLabelFileOf}
 use Rattle.ts_store.specs.Leaves.{LeavesTold}
 use Rattle.ts_store.specs.Publishes.{LeavesReplaced}
-use Rattle.ts_store.specs.Safe.{ChangesSafely, IsChangeMoment, IsSafe, IsSettledAt, IsStepMoment, LeavesSettled}
+use Rattle.ts_store.specs.Safe.{ChangesOneFile, ChangesSafely, IsChangeMoment, IsSafe, IsSettledAt, IsStepMoment, LeavesSettled, SettlesAll, StopsSettled, change_result}
 use Rattle.ts_store.specs.Stands.{AreCounted, Stands}
 use Rattle.ts_store.specs.State.{State}
 use Rattle.ts_store.specs.Stepped.{Stepped}
@@ -228,16 +228,69 @@ settled_leaves folder image (names, stands, each) file apart = by_side (each fil
 pub settled_only : (folder : Folder) (crash : CrashState) → AddsNone crash (settled folder) → LeavesFolder folder crash
 settled_only folder crash adds = λ image is. settled_leaves folder image (adds image is)
 
-module _ (old middle new : Outside) (telling : middle.tells_images ≡ old.tells_images) (barrier : IsTrue old.tells_images → middle.crash ≡ settled old.folder) (adds : AddsNoImage middle new) where
-  adds_settled : IsTrue old.tells_images → AddsNone new.crash (settled old.folder)
-  adds_settled told = subst (λ (c : CrashState). AddsNone new.crash c) (barrier told) (adds.now (subst (λ (b : Bool). IsTrue b) (sym telling) told))
+-- a folder that was settled reads as it did
+pub settled_reads : (old middle : Outside) → OnlyReads false old middle → (IsTrue old.tells_images → middle.crash ≡ settled old.folder) → IsHonest middle → middle.crash ≡ settled middle.folder
+settled_reads old middle reads settles honest =
+    settles (subst (λ (b : Bool). IsTrue b) reads.images.telling honest.images) ∙ ap settled (sym (reads.folder (subst (λ (b : Bool). IsTrue b) reads.telling honest.folder)))
+
+-- a folder that was settled, and then only read
+module _ (old middle new : Outside) (before : OnlyReads false old middle) (settles : IsTrue old.tells_images → middle.crash ≡ settled old.folder) (since : AddsNoImage middle new) where
+  settles_all : IsTrue old.tells_images → SettlesAll old new
+  settles_all told = record { middle = middle; settles = settles told; before = before; since = since }
+
+  stops_settled : (stop : Stop) → StopsSettled stop old new
+  stops_settled DiskFault = λ told. inr (settles_all told)
+  stops_settled Usage = settles_all
+  stops_settled (Damaged name) = settles_all
+  stops_settled InputFault = settles_all
+  stops_settled OutputFault = settles_all
+  stops_settled InputLimit = settles_all
+  stops_settled Memory = settles_all
 
   pub opening_settles : {T : Type 0} (result : Result T Stop) → LeavesSettled result old new
-  opening_settles (Ok opened) = adds_settled
-  opening_settles (Err DiskFault) = tt
-  opening_settles (Err Usage) = adds_settled
-  opening_settles (Err (Damaged name)) = adds_settled
-  opening_settles (Err InputFault) = adds_settled
-  opening_settles (Err OutputFault) = adds_settled
-  opening_settles (Err InputLimit) = adds_settled
-  opening_settles (Err Memory) = adds_settled
+  opening_settles (Ok opened) = settles_all
+  opening_settles (Err stop) = stops_settled stop
+
+-- a barrier that failed
+pub opening_fails : (stop : Stop) (old new : Outside) → stop ≡ DiskFault → (IsTrue old.tells_images → new.crash ≡ old.crash) → StopsSettled stop old new
+opening_fails stop old new is same = subst (λ (s : Stop). StopsSettled s old new) (sym is) (λ told. inl (same told))
+
+-- ---- what a crash leaves of a change of one file that is told
+
+module _ {E : Type 0} (name bytes : List ℕ) (given : Result (Unit {0}) E) where
+  pub crash_failed : (old new : CrashState) → is_err given ≡ true → ReplacesCrash given name bytes old new → ReplacesCrash {E = Stop} (Err DiskFault) name bytes old new
+  crash_failed old new failed leaves = by_result given failed leaves
+    where
+      by_result : (r : Result (Unit {0}) E) → is_err r ≡ true → ReplacesCrash r name bytes old new → ReplacesCrash {E = Stop} (Err DiskFault) name bytes old new
+      by_result (Ok value) failed leaves = absurd (true≢false (sym failed))
+      by_result (Err error) failed leaves = leaves
+
+  crash_done : (old middle new : CrashState) → is_err given ≡ false → ReplacesCrash given name bytes old middle → new ≡ middle → ReplacesCrash {E = Stop} (Ok tt) name bytes old new
+  crash_done old middle new done leaves same = by_result given done leaves
+    where
+      by_result : (r : Result (Unit {0}) E) → is_err r ≡ false → ReplacesCrash r name bytes old middle → ReplacesCrash {E = Stop} (Ok tt) name bytes old new
+      by_result (Ok value) done leaves = same ∙ leaves
+      by_result (Err error) done leaves = absurd (true≢false done)
+
+  pub crash_told : (old middle new : CrashState) → is_err given ≡ false → ReplacesCrash given name bytes old middle → new ≡ middle → (result : Result Kind Stop) → IfErr result (λ stop. stop ≡ OutputFault)
+      → ReplacesCrash (change_result result) name bytes old new
+  crash_told old middle new done leaves same (Ok kind) why = crash_done old middle new done leaves same
+  crash_told old middle new done leaves same (Err stop) why =
+      subst (λ (s : Stop). ReplacesCrash (change_result (Err s)) name bytes old new) (sym why) (crash_done old middle new done leaves same)
+
+-- ---- one file
+
+pub one_file_said : (fault : Bool) (old new : Outside) → OnlySays fault old new → ChangesOneFile old new
+one_file_said fault old new says honest leaves = (
+  new_tmp,
+  [],
+  goes_weaker (λ moment. (moment.crash ≡ old.crash) × Extends old.told moment.told × Extends moment.told new.told) (λ moment. LeavesEither new_tmp [] old.folder moment.crash) (moments_of old) (moments_of new)
+      (λ moment still image is. inl (leaves image (subst (λ (c : CrashState). IsImage c image) still.0 is))) (says.images.moments honest.images),
+)
+
+pub one_file_changed : (name bytes text : List ℕ) (result : Result Kind Stop) (old new : Outside) → (IsHonest old → LeavesFolder old.folder old.crash → ChangesSafely result name bytes text old new) → ChangesOneFile old new
+one_file_changed name bytes text result old new safely honest leaves = (
+  name,
+  bytes,
+  goes_weaker (IsChangeMoment name bytes text old) (λ moment. LeavesEither name bytes old.folder moment.crash) (moments_of old) (moments_of new) (λ moment is. is.either) (safely honest leaves).moments,
+)

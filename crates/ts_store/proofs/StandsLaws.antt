@@ -1,5 +1,5 @@
 -- A folder that stood for a state stands for what a step leaves of it.
-use Rattle.std.proofs.Common.{Result, Ok, Err, inl, inr}
+use Rattle.std.proofs.Common.{◌≡◌, Result, Ok, Err, inl, inr, subst}
 use Rattle.ts_model.specs.History.{IsWellKept}
 use Rattle.ts_script.specs.declared.command.Command.{Command}
 use Rattle.ts_site.specs.Folder.{Folder}
@@ -33,3 +33,17 @@ module _ (folder : Folder) (before : State) (asked : Command) (kept : IsWellKept
   stands_after (Err (Damaged name)) says = still says
   stands_after (Err InputFault) says = still says
   stands_after (Err InputLimit) says = still says
+
+-- cursors and the newest layer stand in no file
+pub stands_like : (folder : Folder) (a b : State) → a.history ≡ b.history → a.labels ≡ b.labels → Stands folder a → Stands folder b
+stands_like folder a b history labels stands =
+    let mixed : State = record { history = a.history; labels = a.labels; cursors = b.cursors; last = b.last } in
+    let says : FolderSays folder mixed = record {
+      kept = stands.says.kept;
+      named = stands.says.named;
+      layers = stands.says.layers;
+      rollups = stands.says.rollups;
+      labels = stands.says.labels;
+    } in
+    let same : mixed ≡ b = λ i. record { history = history i; labels = labels i; cursors = b.cursors; last = b.last } in
+    subst (λ (s : State). Stands folder s) same (record { says = says; counted = stands.counted })

@@ -1,29 +1,27 @@
 -- Each step tells something.
-use Rattle.std.proofs.Common.{ℕ, ◌<◌, Bool, true, false, codes, List, ◌∷◌, ◌++◌, [], length, map, take, Some, Result, Ok, Err, arith, length-append}
+use Rattle.std.proofs.Common.{ℕ, ◌<◌, Bool, true, false, codes, List, ◌∷◌, ◌++◌, [], length, take, Some, Result, Ok, Err, arith, length-append}
 use Rattle.std.specs.Prelude.{flat_map}
 use Rattle.std.specs.FinMap.{entries, get, keys, len}
-use Rattle.ts_labels.specs.Labels.{Labels}
 use Rattle.ts_labels.specs.Moves.{made_label, moved_label}
 use Rattle.ts_labels.specs.declared.label.Label.{Label}
 use Rattle.ts_labels.specs.declared.label_error.LabelError.{LabelError}
 use Rattle.ts_model.specs.TextTriple.{TextTriple}
-use Rattle.ts_model.specs.History.{History, additions_at, content_at, parent_at, removals_at}
+use Rattle.ts_model.specs.History.{additions_at, content_at, parent_at, removals_at}
 use Rattle.ts_model.specs.Listing.{in_birth_order, select}
 use Rattle.ts_model.specs.Sets.{contains}
 use Rattle.ts_nt.specs.TripleLine.{triple_line}
-use Rattle.ts_script.specs.Replies.{line, refusal_text, refusal_words, reply_text}
+use Rattle.ts_script.specs.Replies.{refusal_text, refusal_words, reply_text}
 use Rattle.ts_script.specs.declared.command.Command.{Command}
 use Rattle.ts_script.specs.declared.command.Command.TheVariants as command
 use Rattle.ts_script.specs.declared.reply.Refusal.{Refusal}
 use Rattle.ts_script.specs.declared.reply.Refusal.TheVariants as refusal
-use Rattle.ts_script.specs.declared.reply.Reply.{Reply}
 use Rattle.ts_script.specs.declared.reply.Reply.TheVariants as reply
 use Rattle.ts_store.specs.Fetches.{closes, fetch_end, fetches, opening, opens}
 use Rattle.ts_store.specs.Makes.{base_layer, child_layer, makes, squashed_layer}
 use Rattle.ts_store.specs.Puts.{label_line, puts, refusal_of}
 use Rattle.ts_store.specs.Resolve.{find_cursor, find_label, find_layer, find_ref, find_target}
 use Rattle.ts_store.specs.State.{State}
-use Rattle.ts_store.specs.Step.{has_text, layers_text, listing_text, step_of}
+use Rattle.ts_store.specs.Step.{has_text, listing_text, step_of}
 use Rattle.ts_store.specs.Stepped.{Stepped, at_found, does}
 use Rattle.ts_store.proofs.PrefixLaws.{reply_is_longer}
 use Rattle.ts_store.proofs.PublishLaws.{makes_tells}

@@ -1,13 +1,13 @@
 -- What a command does: how it is answered, what is said, and what it leaves of the state and the folder.
 use Rattle.std.specs.Prelude.{◌≡◌, Bool, List, ℕ, IsTrue, IfOk, IfErr, Result}
 use Rattle.ts_site.specs.Faults.{CountsFault, is_err_and}
-use Rattle.ts_site.specs.Outside.{Outside, OnlySays}
+use Rattle.ts_site.specs.Outside.{Outside, IsHonest, OnlySays}
 use Rattle.ts_store.specs.declared.stop.Stop.{Stop}
 use Rattle.ts_store.specs.declared.stop.Stop.TheVariants.{OutputFault, Memory}
 use Rattle.ts_store.specs.declared.stop.Kind.{Kind}
 use Rattle.ts_store.specs.FolderSays.{FolderSays}
 use Rattle.ts_store.specs.Leaves.{LeavesFolder, LeavesState, LeavesTold}
-use Rattle.ts_store.specs.Safe.{IsSafe, IsSettledAt}
+use Rattle.ts_store.specs.Safe.{ChangesOneFile, IsSafe, IsSettledAt, LeavesCrash}
 use Rattle.ts_store.specs.State.{State}
 use Rattle.ts_store.specs.Stepped.{Stepped}
 use Rattle.ts_store.specs.Stops.{IsStepStop, KeepsTelling, is_disk_fault, is_output_fault, kind_of}
@@ -37,4 +37,6 @@ pub record Does (before : State) (stepped : Stepped) (result : Result Kind Stop)
   pub disk : CountsFault (is_err_and is_disk_fault result) old.disk_faults new.disk_faults
   pub say : CountsFault (is_err_and is_output_fault result) old.say_faults new.say_faults
   pub telling : KeepsTelling old new
+  pub crash : IsHonest old → LeavesCrash result old.crash new.crash
+  pub one_file : ChangesOneFile old new
   pub safe : IsSettledAt FolderSays before old → IsSafe FolderSays before stepped result old new

@@ -9,19 +9,14 @@ use Rattle.ts_store.specs.Makes.{next_number}
 use Rattle.ts_store.specs.Resolve.{find_cursor, find_layer, find_ref}
 use Rattle.ts_store.specs.State.{State}
 
--- the commands that need nothing of the folder: those at fault, those that list the layers or the labels or tell a label, and those
--- that fetch from a cursor or close it
-abbrev pub NeedsNoFile : Command → Type 0
-NeedsNoFile (command.BadCommand line) = Unit {0}
-NeedsNoFile (command.BadTriple line) = Unit {0}
-NeedsNoFile (command.TooLong line) = Unit {0}
-NeedsNoFile (command.Unfinished line) = Unit {0}
-NeedsNoFile command.Layers = Unit {0}
-NeedsNoFile command.Labels = Unit {0}
-NeedsNoFile (command.LabelGet name) = Unit {0}
-NeedsNoFile (command.Fetch name n) = Unit {0}
-NeedsNoFile (command.CloseCursor name) = Unit {0}
-NeedsNoFile _ = ⊥
+-- the commands that change no file: all but those that make a layer, and those that make a label or move one
+abbrev pub ChangesNoFile : Command → Type 0
+ChangesNoFile (command.Base body) = ⊥
+ChangesNoFile (command.Commit at body) = ⊥
+ChangesNoFile (command.Squash at) = ⊥
+ChangesNoFile (command.LabelNew name) = ⊥
+ChangesNoFile (command.LabelSet name version to) = ⊥
+ChangesNoFile _ = Unit {0}
 
 -- the commands whose reply is a line for each of some triples: memory may run out between two of them
 abbrev pub is_listing : Command → Bool

@@ -1,11 +1,11 @@
 -- What a crash leaves of a step, of a change of one file that is told, and of the opening.
-use Rattle.std.specs.Prelude.{◌≡◌, ◌⊎◌, ◌≤◌, ℕ, List, ◌++◌, take, length, IsTrue, OnOk, Result, Ok, Err}
-use Rattle.ts_replace.specs.CrashSafe.{LeavesFolder, LeavesEither}
+use Rattle.std.specs.Prelude.{◌≡◌, ◌⊎◌, ◌≤◌, ℕ, List, ◌++◌, take, length, IsTrue, false, OnOk, MatchResult, Result, Ok, Err}
+use Rattle.ts_replace.specs.CrashSafe.{LeavesFolder, LeavesEither, ReplacesCrash}
 use Rattle.ts_replace.specs.Replaced.{replaced}
-use Rattle.ts_site.specs.Crash.{AddsNone, EachImage, settled}
+use Rattle.ts_site.specs.Crash.{CrashState, EachImage, settled}
 use Rattle.ts_site.specs.Folder.{Folder}
 use Rattle.ts_site.specs.Moments.{Moment, GoesOn}
-use Rattle.ts_site.specs.Outside.{Outside, IsHonest, moments_of}
+use Rattle.ts_site.specs.Outside.{Outside, AddsNoImage, IsHonest, OnlyReads, moments_of}
 use Rattle.ts_store.specs.declared.stop.Kind.{Kind}
 use Rattle.ts_store.specs.declared.stop.Stop.{Stop}
 use Rattle.ts_store.specs.declared.stop.Stop.TheVariants.{DiskFault}
@@ -46,8 +46,34 @@ pub record ChangesSafely (result : Result Kind Stop) (name bytes text : List ℕ
   pub ok : OnOk result (LeavesFolder (replaced old.folder name bytes) new.crash)
   pub honest : IsHonest new
 
--- Once the folder was settled a crash leaves just what reads. Only where the disk failed it may leave what one before might have left.
+-- how the change of one file went that a step made: it failed where the step tells a fault of the disk
+abbrev pub change_result : Result Kind Stop → Result (Unit {0}) Stop
+change_result (Err DiskFault) = Err DiskFault
+change_result _ = Ok tt
+
+-- What a crash leaves is exactly what it left before the step, or what the change of one file makes of that. So nothing was done on
+-- the disk after that, nor after a fault of it.
+abbrev pub LeavesCrash : Result Kind Stop → CrashState → CrashState → Type 0
+LeavesCrash result old new = (new ≡ old) ⊎ ((name bytes : List ℕ) × ReplacesCrash (change_result result) name bytes old new)
+
+-- Where a crash leaves the folder that reads, one at any moment leaves that, or that with a change of one file, whatever it leaves of the
+-- temporary file.
+abbrev pub ChangesOneFile : Outside → Outside → Type 0
+ChangesOneFile old new =
+    IsHonest old → LeavesFolder old.folder old.crash
+    → (name : List ℕ) × (bytes : List ℕ) × GoesOn (λ moment. LeavesEither name bytes old.folder moment.crash) (moments_of old) (moments_of new)
+
+-- All was settled in the middle: until then a crash leaves what one before might have left, and from then on just what reads.
+pub record SettlesAll (old new : Outside) : Type 0 where
+  pub middle : Outside
+  pub settles : middle.crash ≡ settled old.folder
+  pub before : OnlyReads false old middle
+  pub since : AddsNoImage middle new
+
+-- once the folder is read, all was settled; at a fault of the disk that, or nothing was
+abbrev pub StopsSettled : Stop → Outside → Outside → Type 0
+StopsSettled DiskFault old new = IsTrue old.tells_images → (new.crash ≡ old.crash) ⊎ SettlesAll old new
+StopsSettled _ old new = IsTrue old.tells_images → SettlesAll old new
+
 abbrev pub LeavesSettled : {T : Type 0} → Result T Stop → Outside → Outside → Type 0
-LeavesSettled (Ok opened) old new = IsTrue old.tells_images → AddsNone new.crash (settled old.folder)
-LeavesSettled (Err DiskFault) old new = Unit {0}
-LeavesSettled (Err stop) old new = IsTrue old.tells_images → AddsNone new.crash (settled old.folder)
+LeavesSettled result old new = MatchResult result (λ _. IsTrue old.tells_images → SettlesAll old new) (λ stop. StopsSettled stop old new)

@@ -38,7 +38,8 @@ abbrev pub spent_after : Result Kind Stop → Option Stop
 spent_after (Ok kind) = None
 spent_after (Err stop) = Some stop
 
--- what was told of the folder and the output is still told
+-- what was told of the folder, the output and the images is still told
 pub record KeepsTelling (old new : Outside) : Type 0 where
   pub folder : new.tells_folder ≡ old.tells_folder
   pub output : new.tells_output ≡ old.tells_output
+  pub images : new.tells_images ≡ old.tells_images

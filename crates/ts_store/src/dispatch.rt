@@ -3,7 +3,7 @@ ghost use Rattle.std.specs.Prelude.{◌≡◌, IfErr, Err, false};
 ghost use Rattle.ts_store.specs.Does.{Does};
 ghost use Rattle.ts_site.specs.Faults.{is_err_and};
 ghost use Rattle.ts_site.specs.Outside.{OnlySays};
-ghost use Rattle.ts_store.specs.Memory.{NeedsNoFile, TakesNoMemory, is_listing};
+ghost use Rattle.ts_store.specs.Memory.{ChangesNoFile, TakesNoMemory, is_listing};
 ghost use Rattle.ts_store.specs.Stops.{is_output_fault};
 ghost use Rattle.ts_store.specs.Step.{step_of};
 
@@ -31,7 +31,7 @@ pub(crate) fn dispatch<W: Site>(
     command: &Command,
 ) -> Result<Kind, Stop>
     ensures does { Does store.old (step_of store.old command.now) result store.new (W.outside site.old) (W.outside site.new) }
-    ensures alone { NeedsNoFile command.now → OnlySays (is_err_and is_output_fault result) (W.outside site.old) (W.outside site.new) }
+    ensures alone { ChangesNoFile command.now → OnlySays (is_err_and is_output_fault result) (W.outside site.old) (W.outside site.new) }
     ensures stays { result ≡ Err Stop.Memory → store.new ≡ store.old }
     ensures untouched { is_listing command.now ≡ false → result ≡ Err Stop.Memory → site.new ≡ site.old }
     ensures free { TakesNoMemory store.old command.now → IfErr result (λ stop. stop ≡ Stop.Memory → ⊥) }

@@ -8,9 +8,9 @@ ghost use Rattle.ts_site.specs.Faults.{CountsFault, is_err_and};
 ghost use Rattle.ts_store.specs.Does.{Does};
 ghost use Rattle.ts_store.specs.Leaves.{LeavesTold};
 ghost use Rattle.ts_store.specs.Publishes.{LeavesReplaced};
-ghost use Rattle.ts_replace.specs.CrashSafe.{LeavesFolder};
+ghost use Rattle.ts_replace.specs.CrashSafe.{LeavesFolder, ReplacesCrash};
 ghost use Rattle.ts_site.specs.Outside.{IsHonest};
-ghost use Rattle.ts_store.specs.Safe.{ChangesSafely};
+ghost use Rattle.ts_store.specs.Safe.{ChangesSafely, change_result};
 ghost use Rattle.ts_store.specs.Puts as specs;
 ghost use Rattle.ts_store.specs.Step.{step_of};
 ghost use Rattle.ts_store.specs.Stops.{KeepsTelling, is_disk_fault, is_output_fault};
@@ -98,6 +98,7 @@ fn put_label<W: Site>(
         → LeavesReplaced result (label_file_name name.now) (label_text label) (W.outside site.old).folder (W.outside site.new).folder }
     ensures safe { IsHonest (W.outside site.old) → LeavesFolder (W.outside site.old).folder (W.outside site.old).crash
         → ChangesSafely result (label_file_name name.now) (label_text label) (specs.label_line name.now label) (W.outside site.old) (W.outside site.new) }
+    ensures crash { IsHonest (W.outside site.old) → ReplacesCrash (change_result result) (label_file_name name.now) (label_text label) (W.outside site.old).crash (W.outside site.new).crash }
     ensures why { IfErr result (λ stop. (stop ≡ Stop.DiskFault) ⊎ (stop ≡ Stop.OutputFault)) }
     ensures disk { CountsFault (is_err_and is_disk_fault result) (W.outside site.old).disk_faults (W.outside site.new).disk_faults }
     ensures say { CountsFault (is_err_and is_output_fault result) (W.outside site.old).say_faults (W.outside site.new).say_faults }

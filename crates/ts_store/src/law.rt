@@ -5,6 +5,7 @@ ghost use Rattle.ts_site.specs.Folder.{Folder};
 ghost use Rattle.ts_script.specs.declared.command.Command.{Command};
 ghost use Rattle.ts_store.specs.FolderSays.{FolderSays, IsFirstDamaged};
 ghost use Rattle.ts_store.specs.KeptState.{IsKeptState, IsProperCommand};
+ghost use Rattle.ts_store.specs.Stands.{Stands};
 ghost use Rattle.ts_store.specs.State.{State};
 ghost use Rattle.ts_store.specs.Step.{step_of};
 
@@ -25,4 +26,10 @@ pub fn refused_changes_nothing()
 /// What a state keeps it keeps after each step.
 pub fn steps_keep()
     ensures { (state : State) (asked : Command) → IsProperCommand asked → IsKeptState state → IsKeptState (step_of state asked).state }
+{}
+
+/// For which states a folder stands is a matter of their history and labels, whatever their cursors and their newest layer. So
+/// where a folder stands for a state, the next run starts from a fresh one for which it stands.
+pub fn stands_by_files()
+    ensures { (folder : Folder) (a b : State) → a.history ≡ b.history → a.labels ≡ b.labels → Stands folder a → Stands folder b }
 {}

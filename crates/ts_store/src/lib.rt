@@ -3,13 +3,14 @@
 //! - [`Session`] is an open folder: [`Session::open`] reads it, [`Session::step`] does one command and says its reply, and
 //!   [`Session::spent`] tells by what it was ended.
 //! - [`Kind`] is how a command was answered, [`Stop`] why none was.
-//! - [`one_history`], [`refused_changes_nothing`] and [`steps_keep`] are what holds of every folder and of every step.
+//! - [`one_history`], [`refused_changes_nothing`], [`stands_by_files`] and [`steps_keep`] are what holds of every folder and of every
+//!   step.
 //!
 //! The layer above uses that a step is the stated one: the state after it, its reply and its folder are those of the state
 //! before it and the command, and each fault is answered exactly where its count rose.
 #![tactic(auto)]
 
-pub use law::{one_history, refused_changes_nothing, steps_keep};
+pub use law::{one_history, refused_changes_nothing, stands_by_files, steps_keep};
 pub use session::Session;
 pub use stop::{Kind, Stop};
 

@@ -9,7 +9,8 @@ ghost use Rattle.ts_plain.specs.PlainRules.{IsPlainLayer};
 ghost use Rattle.ts_replace.specs.Names.{IsLayerNumber, layer_name};
 ghost use Rattle.ts_replace.specs.Scanned.{AreThoseOf, Rise};
 ghost use Rattle.ts_site.specs.Faults.{is_err_and};
-ghost use Rattle.ts_site.specs.Outside.{OnlyReads};
+ghost use Rattle.ts_site.specs.Crash.{settled};
+ghost use Rattle.ts_site.specs.Outside.{IsHonest, OnlyReads, SettlesCrash};
 ghost use Rattle.ts_store.specs.FolderSays.{FolderSays, IsFirstDamaged};
 ghost use Rattle.ts_store.specs.Opened.{AreLayersRead, IsFirstOf, IsReadFrom, IsRollupStop, IsUnreadable};
 ghost use Rattle.ts_store.specs.Safe.{LeavesSettled};
@@ -35,13 +36,37 @@ pub(crate) fn read_folder<W: Site>(alloc: Global, site: &mut W) -> Result<Store,
     ensures why { IfErr result IsOpeningStop }
     ensures reads { OnlyReads (is_err_and is_disk_fault result) (W.outside site.old) (W.outside site.new) }
 {
+    match settle(site) {
+        Err(stop) => Err(stop),
+        Ok(()) => read_settled(alloc, site),
+    }
+}
+
+/// Settles what reads.
+fn settle<W: Site>(site: &mut W) -> Result<(), Stop>
+    ensures crash { SettlesCrash result (settled (W.outside site.old).folder) (W.outside site.old) (W.outside site.new) }
+    ensures why { IfErr result (λ stop. stop ≡ Stop.DiskFault) }
+    ensures reads { OnlyReads (is_err_and is_disk_fault result) (W.outside site.old) (W.outside site.new) }
+{
     match site.barrier() {
+        Ok(()) => Ok(()),
         Err(_) => Err(Stop::DiskFault),
-        Ok(()) => match Folder::scan(alloc, site) {
-            Err(ScanFail::Failed) => Err(Stop::DiskFault),
-            Err(ScanFail::Memory) => Err(Stop::Memory),
-            Ok(found) => read_found(alloc, site, &found),
-        },
+    }
+}
+
+/// Reads a settled folder: what it reads is all that a crash leaves.
+fn read_settled<W: Site>(alloc: Global, site: &mut W) -> Result<Store, Stop>
+    requires { IsHonest (W.outside site.old) → (W.outside site.old).crash ≡ settled (W.outside site.old).folder }
+    ensures fresh { IfOk result IsFresh }
+    ensures says { IsTrue (W.outside site.old).tells_folder → IfOk result (FolderSays (W.outside site.old).folder) }
+    ensures damaged { IsTrue (W.outside site.old).tells_folder → IfErr result (λ stop. (name : List ℕ) → stop ≡ Stop.Damaged name → IsFirstDamaged (W.outside site.old).folder name) }
+    ensures why { IfErr result IsOpeningStop }
+    ensures reads { OnlyReads (is_err_and is_disk_fault result) (W.outside site.old) (W.outside site.new) }
+{
+    match Folder::scan(alloc, site) {
+        Err(ScanFail::Failed) => Err(Stop::DiskFault),
+        Err(ScanFail::Memory) => Err(Stop::Memory),
+        Ok(found) => read_found(alloc, site, &found),
     }
 }
 

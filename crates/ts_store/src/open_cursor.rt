@@ -4,11 +4,14 @@ ghost use Rattle.std.specs.FinMap.{contains_key};
 ghost use Rattle.ts_model.specs.Fits.{fits};
 ghost use Rattle.ts_model.specs.Listing.{select};
 ghost use Rattle.ts_plain.specs.History.{AreHistory, history_of};
+ghost use Rattle.ts_site.specs.Faults.{is_err_and};
+ghost use Rattle.ts_site.specs.Outside.{OnlySays};
 ghost use Rattle.ts_store.specs.Does.{Does};
 ghost use Rattle.ts_store.specs.Fetches as specs;
 ghost use Rattle.ts_store.specs.Memory.{IsMissing};
 ghost use Rattle.ts_store.specs.Resolve as resolve;
 ghost use Rattle.ts_store.specs.Step.{step_of};
+ghost use Rattle.ts_store.specs.Stops.{is_output_fault};
 
 use crate::answer::{refuse, reply};
 use crate::cursors::CursorTable;
@@ -34,6 +37,7 @@ pub(crate) fn open_cursor<W: Site>(
     pattern: &Pattern,
 ) -> Result<Kind, Stop>
     ensures does { Does store.old (step_of store.old (Command.OpenCursor name.now at.now pattern.now)) result store.new (W.outside site.old) (W.outside site.new) }
+    ensures alone { OnlySays (is_err_and is_output_fault result) (W.outside site.old) (W.outside site.new) }
     ensures untouched { result ≡ Err Stop.Memory → site.new ≡ site.old }
     ensures stays { result ≡ Err Stop.Memory → store.new ≡ store.old }
     ensures free { IsMissing (resolve.find_ref store.old at.now) ⊎ IsMissing (specs.opening store.old.cursors name.now)
@@ -76,6 +80,7 @@ fn open_at<W: Site>(
     requires stands { IsTrue (contains_key store.old.history number) }
     requires taken { contains_key store.old.cursors name.now ≡ false }
     ensures does { Does store.old (specs.opens store.old name.now (select store.old.history number pattern.now)) result store.new (W.outside site.old) (W.outside site.new) }
+    ensures alone { OnlySays (is_err_and is_output_fault result) (W.outside site.old) (W.outside site.new) }
     ensures untouched { result ≡ Err Stop.Memory → site.new ≡ site.old }
     ensures stays { result ≡ Err Stop.Memory → store.new ≡ store.old }
 {

@@ -11,9 +11,9 @@ ghost use Rattle.ts_store.specs.Cursors.{Cursors};
 ghost use Rattle.ts_store.specs.Does.{Does};
 ghost use Rattle.ts_store.specs.Leaves.{LeavesTold};
 ghost use Rattle.ts_store.specs.Publishes.{AddsLayerTo, KeepsLayers, LeavesReplaced};
-ghost use Rattle.ts_replace.specs.CrashSafe.{LeavesFolder};
+ghost use Rattle.ts_replace.specs.CrashSafe.{LeavesFolder, ReplacesCrash};
 ghost use Rattle.ts_site.specs.Outside.{IsHonest};
-ghost use Rattle.ts_store.specs.Safe.{ChangesSafely};
+ghost use Rattle.ts_store.specs.Safe.{ChangesSafely, change_result};
 ghost use Rattle.ts_store.specs.Makes.{is_counted_at, makes, with_layer};
 ghost use Rattle.ts_store.specs.Stops.{KeepsTelling, is_disk_fault, is_output_fault};
 ghost use Rattle.ts_store.specs.Store.{IsNextLayer, IsSound, state_of};
@@ -106,6 +106,7 @@ fn publish<W: Site>(
         → LeavesReplaced result (layer_name layer.number) file.now (W.outside site.old).folder (W.outside site.new).folder }
     ensures safe { IsHonest (W.outside site.old) → LeavesFolder (W.outside site.old).folder (W.outside site.old).crash
         → ChangesSafely result (layer_name layer.number) file.now (reply_text (Reply.Layer layer.number)) (W.outside site.old) (W.outside site.new) }
+    ensures crash { IsHonest (W.outside site.old) → ReplacesCrash (change_result result) (layer_name layer.number) file.now (W.outside site.old).crash (W.outside site.new).crash }
     ensures why { IfErr result (λ stop. (stop ≡ Stop.DiskFault) ⊎ (stop ≡ Stop.OutputFault)) }
     ensures disk { CountsFault (is_err_and is_disk_fault result) (W.outside site.old).disk_faults (W.outside site.new).disk_faults }
     ensures say { CountsFault (is_err_and is_output_fault result) (W.outside site.old).say_faults (W.outside site.new).say_faults }

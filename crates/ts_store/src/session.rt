@@ -1,7 +1,7 @@
 // An open folder.
 ghost use Rattle.std.specs.Prelude.{◌≡◌, ℕ, List, None, Some, Err, IsTrue, IfOk, IfErr, option_map, false};
 ghost use Rattle.ts_site.specs.Faults.{CountsFault, is_err_and};
-ghost use Rattle.ts_site.specs.Outside.{OnlyReads, OnlySays};
+ghost use Rattle.ts_site.specs.Outside.{IsHonest, OnlyReads, OnlySays};
 
 use crate::dispatch::dispatch;
 use crate::open::read_folder;
@@ -25,8 +25,8 @@ impl Session {
     ghost use Rattle.ts_store.specs.FolderSays.{FolderSays, IsFirstDamaged};
     ghost use Rattle.ts_store.specs.Keeps.{Keeps, spent_by, state_in};
     ghost use Rattle.ts_store.specs.Leaves.{LeavesFolder, LeavesState, LeavesTold};
-    ghost use Rattle.ts_store.specs.Memory.{NeedsNoFile, TakesNoMemory, is_listing};
-    ghost use Rattle.ts_store.specs.Safe.{IsSafe, IsSettledAt, LeavesSettled};
+    ghost use Rattle.ts_store.specs.Memory.{ChangesNoFile, TakesNoMemory, is_listing};
+    ghost use Rattle.ts_store.specs.Safe.{ChangesOneFile, IsSafe, IsSettledAt, LeavesCrash, LeavesSettled};
     ghost use Rattle.ts_store.specs.Stands.{Stands};
     ghost use Rattle.ts_store.specs.State.{IsFresh, State};
     ghost use Rattle.ts_store.specs.Stops.{IsOpeningStop, IsStepStop, KeepsTelling, is_disk_fault, is_output_fault, kind_of, spent_after};
@@ -42,7 +42,7 @@ impl Session {
             → IfErr result (λ stop. (name : List ℕ) → stop ≡ Damaged name → IsFirstDamaged (W.outside site.old).folder name) }
         ensures fresh { IfOk result (λ session. (state : State) × Keeps session state × IsFresh state) }
 
-        // A crash after it leaves just what reads, and one at any moment of it what one before might have left.
+        // All is settled first: a crash before leaves what one before the call might have left, and one after it just what reads.
         ensures settles { LeavesSettled result (W.outside site.old) (W.outside site.new) }
         ensures why { IfErr result IsOpeningStop }
         ensures reads { OnlyReads (is_err_and is_disk_fault result) (W.outside site.old) (W.outside site.new) }
@@ -79,17 +79,21 @@ impl Session {
         // the next one, and for the next one once the whole reply was told.
         ensures safe { (state : State) → Keeps self.old state → IsSettledAt Stands state (W.outside site.old)
             → IsSafe Stands state (step_of state command.now) result (W.outside site.old) (W.outside site.new) }
+
+        // It changes one file at most, and after a fault nothing is done any more.
+        ensures crash { spent_by self.old ≡ None → IsHonest (W.outside site.old) → LeavesCrash result (W.outside site.old).crash (W.outside site.new).crash }
+        ensures one_file { spent_by self.old ≡ None → ChangesOneFile (W.outside site.old) (W.outside site.new) }
         ensures why { spent_by self.old ≡ None → IfErr result IsStepStop }
 
         // A step that is refused works on the output alone, and so changes no file.
         ensures refused { (state : State) → Keeps self.old state → IsTrue (step_of state command.now).refused → OnlySays (is_err_and is_output_fault result) (W.outside site.old) (W.outside site.new) }
 
         // Only a listing may have said something when memory runs out, and then all that is in memory is as it was. A step that is
-        // refused before it loads takes none, and one that needs no file works on the output alone.
+        // refused before it loads takes none, and one that changes no file works on the output alone.
         ensures untouched { spent_by self.old ≡ None → is_listing command.now ≡ false → result ≡ Err Memory → site.new ≡ site.old }
         ensures stays { spent_by self.old ≡ None → result ≡ Err Memory → state_in self.new ≡ state_in self.old }
         ensures free { (state : State) → Keeps self.old state → TakesNoMemory state command.now → IfErr result (λ stop. stop ≡ Memory → ⊥) }
-        ensures alone { spent_by self.old ≡ None → NeedsNoFile command.now → OnlySays (is_err_and is_output_fault result) (W.outside site.old) (W.outside site.new) }
+        ensures alone { spent_by self.old ≡ None → ChangesNoFile command.now → OnlySays (is_err_and is_output_fault result) (W.outside site.old) (W.outside site.new) }
         ensures spends { spent_by self.old ≡ None → spent_by self.new ≡ spent_after result }
         ensures spent { (stop : Stop) → spent_by self.old ≡ Some stop → (result ≡ Err stop) × (site.new ≡ site.old) × (spent_by self.new ≡ Some stop) }
         ensures disk { spent_by self.old ≡ None → CountsFault (is_err_and is_disk_fault result) (W.outside site.old).disk_faults (W.outside site.new).disk_faults }

@@ -29,7 +29,7 @@ loop-stop-init g c =
       so_far = λ state keeps told says.
           subst (λ (t : Tally). SoFar (g.S.Source.tells c.args.input.now) left o o state c.args.session.now t c.in-Ok.cutter left) (sym c.new-tally.ensures)
           (so_far_none (g.S.Source.tells c.args.input.now) left o state c.args.session.now c.in-Ok.cutter (2 ^ 40) keeps fresh (c.in-Ok.ensures.lines left));
-      telling = record { folder = refl; output = refl };
+      telling = record { folder = refl; output = refl; images = refl };
       disk = refl;
       say = refl;
       tells = refl;

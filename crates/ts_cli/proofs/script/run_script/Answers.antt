@@ -14,7 +14,7 @@ use Rattle.ts_cli.proofs.script.run_script.Goals as goal
 pub returns-in-Err-clause-causes : goal.returns-in-Err-clause-causes
 returns-in-Err-clause-causes g c =
     cause_opening (g.W.Disk.outside c.args.site.now) (g.W.Disk.outside c.open.new.site) (g.S.Source.tells c.args.input.now) (g.S.Source.left c.args.input.now) (g.S.Source.faults c.args.input.now)
-    c.stopped.result c.in-Err.stop c.stopped.ensures c.in-Err.ensures.why c.in-Err.ensures.reads c.in-Err.ensures.damaged
+    c.stopped.result c.in-Err.stop c.stopped.ensures c.in-Err.ensures.why c.in-Err.ensures.reads c.in-Err.ensures.settles c.in-Err.ensures.damaged
 
 pub returns-in-Ok-clause-ends : goal.returns-in-Ok-clause-ends
 returns-in-Ok-clause-ends g c = λ told.

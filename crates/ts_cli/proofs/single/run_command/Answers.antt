@@ -10,7 +10,7 @@ pub returns-in-Err-clause-ends : goal.returns-in-Err-clause-ends
 returns-in-Err-clause-ends g c = λ told.
     let a = asking (map string_bytes c.args.words.now) (g.S.Source.tells c.args.input.now) (g.S.Source.left c.args.input.now) in
     let o = g.W.Disk.outside c.args.site.now in
-    ends_first (change_of o o) a c.stopped.result c.in-Err.stop c.stopped.ensures c.requires c.in-Err.ensures.why (no_change o)
+    ends_first (change_of o o) a c.stopped.result c.in-Err.stop c.stopped.ensures c.requires c.in-Err.ensures.why (no_change o) refl
 
 pub returns-in-Err-clause-causes : goal.returns-in-Err-clause-causes
 returns-in-Err-clause-causes g c =

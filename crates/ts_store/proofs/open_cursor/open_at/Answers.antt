@@ -10,7 +10,7 @@ use Rattle.ts_store.specs.State.{State}
 use Rattle.ts_store.proofs.AnswerLaws.{output_alone}
 use Rattle.ts_store.proofs.FetchLaws.{does_open}
 use Rattle.ts_store.proofs.PrefixLaws.{reply_is_longer}
-use Rattle.ts_store.proofs.PublishLaws.{does_nothing}
+use Rattle.ts_store.proofs.PublishLaws.{does_nothing, only_nothing}
 use Rattle.ts_store.proofs.open_cursor.open_at.Goals as goal
 use Rattle.ts_store.proofs.open_cursor.open_at.Goals.{in-Err-open, in-Ok-open}
 
@@ -32,4 +32,12 @@ returns-after-open-clause-does g c =
           (does_open kept.layers.items kept.labels.labels kept.cursors kept.last state c.store.view_is name w.reply.result (output_alone w.reply.result w.reply.ensures.why) old new
           c.in-Ok.triples.items wanted c.open.new.self opened chosen
           (subst (λ (n : List ℕ). Answers (reply_text (CursorOpen n)) false w.reply.result old new) w.copy-in-Ok-open.ensures w.reply.ensures.answers))
+    ]
+
+pub returns-after-open-clause-alone : goal.returns-after-open-clause-alone
+returns-after-open-clause-alone g c =
+    let old = g.W.Disk.outside c.args.site.now in
+    elim c.match-open.branch [
+      | in-Err-open w ↦ rw (w.site-is, w.result-is) (only_nothing old)
+      | in-Ok-open w ↦ rw (w.site-is, w.result-is) w.reply.ensures.answers.says
     ]
