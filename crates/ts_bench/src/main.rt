@@ -1,8 +1,10 @@
 //! Times the lookups of the structures over bytes: `bits N`, `numbers N`, `texts N`, `sequence N`, `plane N`, `triples N`. It prints
-//! nanoseconds for each lookup, at places drawn at random. Any other words print what there is to time.
+//! nanoseconds for each lookup, at places drawn at random. `iris N` and `text N` read lines, write the part file of their triples and
+//! load it. Any other words print what there is to time.
 #![tactic(auto)]
 
 mod draw;
+mod parts;
 mod planes;
 
 ghost use Rattle.std.specs.Prelude.{◌≡◌, ◌≤◌, All, IfOk};
@@ -10,6 +12,7 @@ ghost use Rattle.std.specs.Cmp.Lexicographic.{slice_cmp};
 ghost use Rattle.std.specs.Ordering.{is_lt, nat_cmp};
 
 use crate::draw::{LOOKUPS, draw, draw_below, tell};
+use crate::parts::{Lines, time_part};
 use crate::planes::{drawn_triples, spread_triples, time_plane};
 use std::alloc::{AllocError, Global};
 use std::env;
@@ -28,6 +31,7 @@ enum Task {
     Sequence(u64),
     Plane(u64),
     Triples(u64),
+    Part(Lines, u64),
     Nothing,
 }
 
@@ -39,8 +43,11 @@ fn main(rt: HostRuntime) -> anyhow::Result<()> {
         Task::Sequence(count) => time_sequence(&rt, rt.alloc(), count),
         Task::Plane(count) => time_plane(&rt, rt.alloc(), &spread_triples(rt.alloc(), count)?),
         Task::Triples(count) => time_plane(&rt, rt.alloc(), &drawn_triples(rt.alloc(), count)?),
+        Task::Part(lines, count) => time_part(&rt, lines, count),
         Task::Nothing => {
-            println!(rt; "bits N, numbers N, texts N, sequence N, plane N, triples N")?;
+            println!(rt;
+                "bits N, numbers N, texts N, sequence N, plane N, triples N, iris N, text N"
+            )?;
             Ok(())
         }
     }
@@ -62,6 +69,8 @@ fn read_task(rt: &(impl Env + AllocGlobal)) -> anyhow::Result<Task> {
         "sequence" => Task::Sequence(count),
         "plane" => Task::Plane(count),
         "triples" => Task::Triples(count),
+        "iris" => Task::Part(Lines::Iris, count),
+        "text" => Task::Part(Lines::Text, count),
         _ => Task::Nothing,
     })
 }
