@@ -7,6 +7,8 @@ use Rattle.ts_part.specs.declared.damage.LoadError.{LoadError}
 use Rattle.ts_part.specs.declared.damage.LoadError.TheVariants as errors
 use Rattle.ts_part.specs.declared.header.Header.{Header}
 use Rattle.ts_part.specs.Damage.{IsDamagedBy}
+use Rattle.ts_part.specs.Header.{HasHeader, section_count}
+use Rattle.ts_part.specs.Layout.{AreSections}
 use Rattle.ts_part.specs.Sections.{StartsRule, BytesRule, PlaneRule, IsFirstFault}
 
 -- fault 0: the starts are none. Fault 1: with them there is no dictionary of so many terms of the kind
@@ -30,7 +32,13 @@ IsSectionsError h sections (errors.Damage faults.Table) = ⊥
 IsSectionsError h sections (errors.Damage (faults.Section kind)) = IsFirstFault h sections kind
 IsSectionsError h sections (errors.Damage faults.Facts) = ⊥
 
--- a fault of the file, or want of memory
+-- the file has the header, and sections as its table says
+pub record HasSections (file : List ℕ) (h : Header) : Type 0 where
+  pub headed : HasHeader file h
+  pub sections : List (List ℕ)
+  pub lie : AreSections file (section_count h.kind) sections
+
+-- A fault of the file, or want of memory. None is wanted by the numbers of a header alone: first its table is held against the file.
 abbrev pub IsLoadError : List ℕ → Header → LoadError → Type 0
-IsLoadError file h errors.Memory = Unit {0}
+IsLoadError file h errors.Memory = HasSections file h
 IsLoadError file h (errors.Damage damage) = IsDamagedBy file h damage
