@@ -1,0 +1,36 @@
+pub mod ContentSize
+mod Decided
+pub mod Deciding
+mod EntryKinds
+mod EntryOrders
+mod EntrySplits
+pub mod GrownChains
+pub mod GrownHistories
+pub mod HeldTriples
+pub mod HoldsAtLayers
+pub mod IdOrder
+pub mod IdsAtLayers
+pub mod Linking
+mod MergeSteps
+mod NamedLemmas
+pub mod NamesAtLayers
+pub mod Naming
+pub mod Narrowing
+pub mod NewLists
+mod NumberRanges
+pub mod OneNumber
+mod PairLemmas
+pub mod Ranges
+pub mod ReadParts
+pub mod Seeking
+pub mod SelectedAtLayers
+mod SortedTerms
+mod SpelledLists
+pub mod StepsContent
+pub mod StepsLink
+pub mod Strangers
+mod StreamLemmas
+pub mod TripleCounts
+pub mod Turns
+mod WalkBounds
+mod WalkedLemmas

@@ -1,0 +1,15 @@
+pub mod Chain
+pub mod Content
+pub mod Ids
+pub mod Holds
+pub mod Stands
+pub mod Patterns
+pub mod Named
+pub mod Streams
+pub mod Numbered
+pub mod Rising
+pub mod Walks
+pub mod Views
+pub mod Begins
+pub mod Spelled
+pub mod Entries

@@ -1,0 +1,33 @@
+//! Chains: the triples of a layer, read from parts.
+//!
+//! A [`Chain`] is a list of parts, newest first, each of which goes on from the next: layers, and rollups
+//! of layers. Over it a term has a number (`node_id`, `value_id`, `predicate_id`) and a number a term
+//! (`term_text`, `predicate_text`, `is_node`); `holds` tells whether a triple stands, and `counts` how many
+//! do. A [`ChainWalk`] goes over the triples that stand and fit a pattern, rising, from after any triple on.
+//! [`Parts`] goes over the names of the parts. [`Spelled`] has the terms of some numbers in the order of their
+//! spellings, as a part's dictionaries want them.
+//!
+//! A clause sees a chain as what its parts say, newest first. Of the parts that name a triple the newest
+//! decides whether it stands. Where each part stands for a step of a history (`StandsFor`), numbers are
+//! those of the layer, and the triples that stand are its content; the layer above uses this.
+#![tactic(auto)]
+
+mod chain;
+mod grown;
+mod law;
+mod numbered;
+mod parts;
+#[cfg(test)]
+mod samples;
+mod spelled;
+mod stream;
+#[cfg(test)]
+mod tests;
+mod walk;
+
+pub use chain::{Chain, Counts};
+pub use grown::new_layers_change_no_others;
+pub use law::chains_stand_for_layers;
+pub use parts::{PartName, Parts};
+pub use spelled::{Spelled, spelled_predicates, spelled_terms};
+pub use walk::ChainWalk;
