@@ -1,0 +1,12 @@
+pub mod BuildLemmas
+pub mod GrownLayer
+pub mod IdLemmas
+pub mod LayerIds
+pub mod LayerSays
+pub mod LayerTerms
+pub mod Linking
+pub mod NetLemmas
+pub mod PickLemmas
+pub mod PlaceLemmas
+pub mod TermLemmas
+pub mod ZipLemmas
