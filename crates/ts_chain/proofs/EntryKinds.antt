@@ -1,6 +1,7 @@
 -- Of which kind the term of a part's number is.
-use Rattle.std.proofs.Common.{◌≡◌, ℕ, zero, suc, ◌+◌, ◌<◌, inl, inr, List, [], ◌∷◌, length, Contains, Option, Some, None, sym, ap, ◌∙◌, arith}
+use Rattle.std.proofs.Common.{◌≡◌, ℕ, ◌+◌, inl, inr, length, sym, ap, ◌∙◌, arith}
 use Rattle.std.specs.Prelude.{slice_get}
+use Rattle.std.specs.Option.{unwrap_or}
 use Rattle.std.proofs.lemmas.List.Elements.{All-contains, Contains-append_cases}
 use Rattle.ts_model.specs.declared.term.TermKind.TheVariants.{Node, Predicate, Value}
 use Rattle.ts_model.specs.TextTerm.{TextTerm, IsTerm}
@@ -9,23 +10,7 @@ use Rattle.ts_part.specs.Rules.{KeepsRules}
 use Rattle.ts_part.specs.Views.{IsNodeNumber}
 use Rattle.ts_part.proofs.EntryLemmas.{entry_within, map_rule, one_entry}
 use Rattle.ts_chain.specs.Entries.{IsNodeOrValue}
-
-pub contains_at : {X : Type 0} (xs : List X) (i : ℕ) (x : X) → slice_get xs i ≡ Some x → Contains xs x
-contains_at [] i x e = let none : ⊥ = cc in absurd none
-contains_at {X} (y ∷ ys) zero x e = (0, omega arith, some_is e)
-  where
-    some_is : Some y ≡ Some x → y ≡ x
-    some_is e = ap from e
-      where
-        from : Option X → X
-        from None = y
-        from (Some z) = z
-contains_at (y ∷ ys) (suc i) x e = let there = contains_at ys i x e in (suc there.0, omega (arith, there.1), there.2)
-
-pub get_below : {X : Type 0} (xs : List X) (i : ℕ) (x : X) → slice_get xs i ≡ Some x → i < length xs
-get_below [] i x e = let none : ⊥ = cc in absurd none
-get_below (y ∷ ys) zero x e = omega arith
-get_below (y ∷ ys) (suc i) x e = let below : i < length ys = get_below ys i x e in omega arith
+use Rattle.ts_chain.proofs.Elements.{contains_at}
 
 -- the term of a number is canonical, and a node or a value
 pub entry_is : (facts : Facts) → KeepsRules facts → (id : ℕ) (term : TextTerm) → HasTerm facts id term → IsTerm term × IsNodeOrValue term
@@ -53,14 +38,7 @@ pub one_term : (facts : Facts) → KeepsRules facts → (id : ℕ) (a b : TextTe
 one_term facts rules id a b first second =
     let same = one_entry facts.kind facts.term_map (length facts.nodes + length facts.values) first.entry second.entry (map_rule facts rules.lists.maps)
     (entry_within facts id a first) (entry_within facts id b second) (let one = first.numbered in let two = second.numbered in omega arith) in
-    some_is (sym first.stands ∙ ap (slice_get (entries_of facts)) same ∙ second.stands)
-  where
-    some_is : Some a ≡ Some b → a ≡ b
-    some_is e = ap from e
-      where
-        from : Option TextTerm → TextTerm
-        from None = a
-        from (Some z) = z
+    ap (λ o. unwrap_or o a) (sym first.stands ∙ ap (slice_get (entries_of facts)) same ∙ second.stands)
 
 pub node_kind : (facts : Facts) → KeepsRules facts → (id : ℕ) (term : TextTerm) → IsNodeNumber facts id → HasTerm facts id term → IsTerm term × (Node ≡ term.kind) × IsNodeOrValue term
 node_kind facts rules id term node has =

@@ -1,6 +1,7 @@
 -- Entries in the order of their terms.
-use Rattle.std.proofs.Common.{◌≡◌, ℕ, zero, suc, ◌+◌, ◌<◌, false, List, [], ◌∷◌, map, length, get_or, All, Contains, Option, Some, None, refl, sym, ap, ◌∙◌, subst, true≢false, arith}
+use Rattle.std.proofs.Common.{◌≡◌, ℕ, zero, suc, ◌+◌, ◌<◌, false, List, [], ◌∷◌, map, length, get_or, All, Contains, Some, refl, sym, ap, ◌∙◌, subst, true≢false, arith}
 use Rattle.std.specs.Prelude.{slice_get, ◌↔◌}
+use Rattle.std.specs.Option.{unwrap_or}
 use Rattle.std.specs.declared.cmp.Ordering.{Ordering}
 use Rattle.std.specs.declared.cmp.Ordering.TheVariants.{Less, Equal, Greater}
 use Rattle.std.specs.Ordering.{nat_cmp, eq_by_cmp, is_eq, is_lt, ordering_reverse, ordering_then}
@@ -132,18 +133,11 @@ module _ (Names : ℕ → TextTerm → Type 0) (kind : TermKind) (entries : List
 
 -- ---- entry by entry
 
-some_is : {X : Type 0} (x y : X) → Some x ≡ Some y → x ≡ y
-some_is {X} x y e = ap from e
-  where
-    from : Option X → X
-    from None = x
-    from (Some z) = z
-
 -- what stands in two mapped lists at one place comes from one entry
 pub entry_at : (entries : List Entry) (i id : ℕ) (term : TextTerm) → slice_get (ids_of entries) i ≡ Some id → slice_get (terms_of_entries entries) i ≡ Some term
     → (e : Entry) × Contains entries e × (e.id ≡ id) × (e.term ≡ term)
 entry_at [] i id term at here = let none : ⊥ = cc in absurd none
-entry_at (e ∷ es) zero id term at here = (e, (0, omega arith, refl), some_is e.id id at, some_is e.term term here)
+entry_at (e ∷ es) zero id term at here = (e, (0, omega arith, refl), ap (λ o. unwrap_or o id) at, ap (λ o. unwrap_or o term) here)
 entry_at (e ∷ es) (suc i) id term at here =
     let found = entry_at es i id term at here in
     (found.0, (suc found.1.0, omega (arith, found.1.1), found.1.2), found.2, found.3)

@@ -248,11 +248,7 @@ module _ (history : History) (kept : IsWellKept history) where
         ] refl
       where
         some_same : {x y : LayerRecord} → Some x ≡ Some y → x ≡ y
-        some_same {x} {y} e = ap (λ o. cond (is_some o) (value o) x) e
-          where
-            value : Option LayerRecord → LayerRecord
-            value None = x
-            value (Some z) = z
+        some_same {x} e = ap (λ o. unwrap_or o x) e
 
         old_parent : (k : ℕ) (o : Option ℕ) → IfSome o (λ p. (p < k) × StandsAt history p) → IfSome o (λ p. (p < k) × StandsAt grown p)
         old_parent k None h = tt

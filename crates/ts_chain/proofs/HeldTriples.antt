@@ -1,6 +1,7 @@
 -- Whether a chain has a triple of spellings, by its numbers.
-use Rattle.std.proofs.Common.{◌≡◌, ℕ, Bool, true, false, List, IsTrue, refl, sym, subst}
+use Rattle.std.proofs.Common.{◌≡◌, ℕ, Bool, false, List, IsTrue, sym, subst}
 use Rattle.std.specs.Prelude.{◌↔◌}
+use Rattle.std.specs.Cmp.{both_ways}
 use Rattle.std.proofs.lemmas.Bool.{false≢true}
 use Rattle.ts_model.specs.TextTriple.{TextTriple}
 use Rattle.ts_model.specs.History.{History, content_at}
@@ -13,12 +14,6 @@ use Rattle.ts_chain.specs.Holds.{HasIds, Holds, spelled_triple}
 use Rattle.ts_chain.specs.Stands.{StandsFor}
 use Rattle.ts_chain.proofs.HoldsAtLayers.{holds_at, spelled_kinds}
 use Rattle.ts_chain.proofs.OneNumber.{one_id}
-
-same_truth : (a b : Bool) → IsTrue a ↔ IsTrue b → a ≡ b
-same_truth true true h = refl
-same_truth true false h = absurd (false≢true (h.0 refl))
-same_truth false true h = absurd (false≢true (h.1 refl))
-same_truth false false h = refl
 
 module _ (parts : List Facts) (triple : TextTriple) where
   one_triple : IsChain parts → (t u : IdTriple) → HasIds parts triple t → HasIds parts triple u → t ≡ u
@@ -41,4 +36,4 @@ pub holds_content : (parts : List Facts) (s p o : List ℕ) (answer : Bool) → 
     → StandsFor parts history k → answer ≡ contains (content_at history k) (spelled_triple s p o)
 holds_content parts s p o answer is history k stands =
     let there = holds_at history k parts (spelled_triple s p o) (spelled_kinds s p o) stands in
-    same_truth answer (contains (content_at history k) (spelled_triple s p o)) (λ yes. there.0 (is.0 yes), λ yes. is.1 (there.1 yes))
+    both_ways answer (contains (content_at history k) (spelled_triple s p o)) (λ yes. there.0 (is.0 yes)) (λ yes. is.1 (there.1 yes))

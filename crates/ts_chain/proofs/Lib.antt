@@ -1,6 +1,7 @@
 pub mod ContentSize
 mod Decided
 pub mod Deciding
+pub mod Elements
 mod EntryKinds
 mod EntryOrders
 mod EntrySplits
@@ -10,7 +11,6 @@ pub mod HeldTriples
 pub mod HoldsAtLayers
 pub mod IdOrder
 pub mod IdsAtLayers
-pub mod Linking
 mod MergeSteps
 mod NamedLemmas
 pub mod NamesAtLayers
@@ -30,6 +30,7 @@ pub mod StepsContent
 pub mod StepsLink
 pub mod Strangers
 mod StreamLemmas
+pub mod TermSets
 pub mod TripleCounts
 pub mod Turns
 mod WalkBounds

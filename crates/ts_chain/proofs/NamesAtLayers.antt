@@ -1,5 +1,5 @@
 -- The terms that parts name by number are those of the layer that they stand for.
-use Rattle.std.proofs.Common.{◌≡◌, ◌≢◌, ℕ, zero, suc, ◌<◌, ◌⊎◌, inl, inr, List, [], ◌∷◌, length, get_or, Contains, Option, None, Some, IfSome, refl, sym, ap, ◌∙◌, subst, arith}
+use Rattle.std.proofs.Common.{◌≡◌, ◌≢◌, ℕ, ◌⊎◌, inl, inr, List, [], ◌∷◌, Contains, Option, None, Some, IfSome, sym, ap, ◌∙◌, subst, arith}
 use Rattle.std.specs.Prelude.{◌↔◌}
 use Rattle.ts_model.specs.declared.term.TermKind.{TermKind}
 use Rattle.ts_model.specs.declared.term.TermKind.TheVariants.{Node, Predicate, Value}
@@ -12,6 +12,7 @@ use Rattle.ts_part.specs.Step.{StandsForStep}
 use Rattle.ts_chain.specs.Ids.{HasId, HasNew, HasOfKind}
 use Rattle.ts_chain.specs.Stands.{AreStepsTo, StandsFor}
 use Rattle.ts_chain.specs.Views.{IsNodeId, IsNodeOf, IsPredicateOf, IsTermOf, NamesPredicate, NamesTerm}
+use Rattle.ts_chain.proofs.Elements.{contains_first, contains_head, contains_rest}
 use Rattle.ts_chain.proofs.IdsAtLayers.{from_parent, has_id_at}
 
 -- ---- kinds and lists
@@ -19,19 +20,6 @@ use Rattle.ts_chain.proofs.IdsAtLayers.{from_parent, has_id_at}
 pub node_or_value : (kind : TermKind) → (kind ≡ Node) ⊎ (kind ≡ Value) → kind ≢ Predicate
 node_or_value kind (inl node) e = let places : kind_place Node ≡ kind_place Predicate = ap kind_place (sym node ∙ e) in absurd (omega arith)
 node_or_value kind (inr value) e = let places : kind_place Value ≡ kind_place Predicate = ap kind_place (sym value ∙ e) in absurd (omega arith)
-
-pub contains_first : {X : Type 0} (x : X) (xs : List X) (y : X) → Contains (x ∷ xs) y → (x ≡ y) ⊎ Contains xs y
-contains_first {X} x xs y h = at h.0 h.1 h.2
-  where
-    at : (i : ℕ) → i < suc (length xs) → get_or (x ∷ xs) i y ≡ y → (x ≡ y) ⊎ Contains xs y
-    at zero below is = inl is
-    at (suc i) below is = inr (i, omega arith, is)
-
-pub contains_head : {X : Type 0} (x : X) (xs : List X) → Contains (x ∷ xs) x
-contains_head x xs = (0, omega arith, refl)
-
-pub contains_rest : {X : Type 0} (x : X) (xs : List X) (y : X) → Contains xs y → Contains (x ∷ xs) y
-contains_rest x xs y h = (suc h.0, omega (arith, h.1), h.2)
 
 -- ---- what is said of each new term of a part holds of the layer
 

@@ -1,8 +1,9 @@
 -- Lists of terms that rise by their spellings, and hold exactly the new terms of a kind, are the lists that a part is to have.
-use Rattle.std.proofs.Common.{◌≡◌, ℕ, Bool, true, false, List, [], ◌∷◌, Option, refl, sym, ap, ◌∙◌}
+use Rattle.std.proofs.Common.{◌≡◌, ℕ, true, List, [], ◌∷◌, Option, sym, ap, ◌∙◌}
 use Rattle.std.specs.declared.cmp.Ordering.{Ordering}
 use Rattle.std.specs.declared.cmp.Ordering.TheVariants.{Less}
 use Rattle.std.specs.Ordering.{nat_cmp, ordering_then}
+use Rattle.std.specs.Cmp.{both_ways}
 use Rattle.std.specs.Cmp.Lexicographic.{slice_cmp}
 use Rattle.std.specs.List.{AllByRecursion}
 use Rattle.std.specs.List.Sorted.{IsStrictlySortedBy}
@@ -32,19 +33,13 @@ terms_rise (x ∷ xs) h = (above xs h.0, terms_rise xs h.1)
     above [] h = tt
     above (y ∷ ys) h = (less_first (slice_cmp nat_cmp x.spelling y.spelling) (nat_cmp (kind_place x.kind) (kind_place y.kind)) h.0, above ys h.1)
 
-same_truth : (a b : Bool) → (a ≡ true → b ≡ true) → (b ≡ true → a ≡ true) → a ≡ b
-same_truth true true f g = refl
-same_truth true false f g = sym (f refl)
-same_truth false true f g = g refl
-same_truth false false f g = refl
-
 -- rising terms with the same members are the same list
 pub same_terms_listed : (xs ys : List TextTerm) → IsStrictlySortedBy term_cmp xs → IsStrictlySortedBy term_cmp ys
     → ((term : TextTerm) → is_in xs term ≡ true → is_in ys term ≡ true) → ((term : TextTerm) → is_in ys term ≡ true → is_in xs term ≡ true) → xs ≡ ys
 same_terms_listed xs ys rise others to from =
     let has = contains-from_list term_cmp term_cmp_total ys in
     members_are term_cmp term_cmp_total term_cmp-IsAntisymmetric (from_list ys) xs rise
-    (λ term. same_truth (is_in xs term) (is_in ys term) (to term) (from term) ∙ sym (has term))
+    (λ term. both_ways (is_in xs term) (is_in ys term) (to term) (from term) ∙ sym (has term))
     ∙ sym (members_are term_cmp term_cmp_total term_cmp-IsAntisymmetric (from_list ys) ys others (λ term. sym (has term)))
 
 module _ (history : History) (kept : IsWellKept history) (from : Option ℕ) (k : ℕ) (over : IsOver history from k) where

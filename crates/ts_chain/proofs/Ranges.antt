@@ -6,7 +6,7 @@ use Rattle.ts_chain.specs.declared.numbered.Numbered.{Numbered}
 use Rattle.ts_chain.specs.declared.numbered.Numbered.TheVariants.{Terms, Predicates}
 use Rattle.ts_chain.specs.Chain.{AreLinked, GoesOnFrom}
 use Rattle.ts_chain.specs.Numbered.{before_of, facts_before, facts_up_to, total_in}
-use Rattle.ts_chain.proofs.NamesAtLayers.{contains_first}
+use Rattle.ts_chain.proofs.Elements.{contains_first}
 
 pub goes_on : (numbered : Numbered) (part next : Facts) → GoesOnFrom part next → facts_before numbered part ≡ facts_up_to numbered next
 goes_on Terms part next goes = goes.terms

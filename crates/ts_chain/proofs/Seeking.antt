@@ -9,7 +9,7 @@ use Rattle.ts_part.specs.Facts.{Facts}
 use Rattle.ts_chain.specs.Ids.{HasId, HasNew, IsIdAt, Lacks, LacksNew}
 use Rattle.ts_chain.specs.Stands.{StandsFor}
 use Rattle.ts_chain.proofs.IdsAtLayers.{id_at, lacks_at}
-use Rattle.ts_chain.proofs.NamesAtLayers.{contains_head, contains_rest}
+use Rattle.ts_chain.proofs.Elements.{contains_head, contains_rest}
 
 -- what is known where nothing is found
 pub none_found : (found : Option ℕ) (P : Type 0) → is_some found ≡ false → IfNone found P → P

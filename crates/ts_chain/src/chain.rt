@@ -11,7 +11,6 @@ ghost use Rattle.ts_model.specs.TextTerm.{TextTerm};
 ghost use Rattle.ts_plane.specs.declared.triple.IdTriple.{IdTriple};
 ghost use Rattle.ts_part.specs.Numbers.{id_triples, totals_at};
 ghost use Rattle.ts_part.specs.Rules.{KeepsRules};
-ghost use Rattle.ts_part.specs.Rules.{KeepsRules};
 ghost use Rattle.ts_chain.specs.Chain.{AreLinked, IsChain, layer_of, predicates_in, terms_in};
 ghost use Rattle.ts_chain.specs.Content.{come_count, go_count, stands_in};
 ghost use Rattle.ts_chain.specs.Holds.{HasIds, Holds, object_kind, spelled_triple};
@@ -207,11 +206,11 @@ impl Chain {
     fn stands(&self, t: IdTriple) -> bool
         ensures { result ≡ stands_in self.now t }
     {
-        for part in &self.parts {
-            if part.additions().has(t) {
+        for newest in &self.parts {
+            if newest.additions().has(t) {
                 return true;
             }
-            if part.removals().has(t) {
+            if newest.removals().has(t) {
                 return false;
             }
         }

@@ -1,11 +1,12 @@
 //! Chains: the triples of a layer, read from parts.
 //!
 //! A [`Chain`] is a list of parts, newest first, each of which goes on from the next: layers, and rollups
-//! of layers. Over it a term has a number (`node_id`, `value_id`, `predicate_id`) and a number a term
-//! (`term_text`, `predicate_text`, `is_node`); `holds` tells whether a triple stands, and `counts` how many
-//! do. A [`ChainWalk`] goes over the triples that stand and fit a pattern, rising, from after any triple on.
-//! [`Parts`] goes over the names of the parts. [`Spelled`] has the terms of some numbers in the order of their
-//! spellings, as a part's dictionaries want them.
+//! of layers; `Chain::are_linked` tells whether parts are such a list. Over a chain a term has a number
+//! (`node_id`, `value_id`, `predicate_id`) and a number a term (`term_text`, `predicate_text`, `is_node`);
+//! `holds` tells whether a triple stands, and `counts` how many do. A [`ChainWalk`] goes over the triples
+//! that stand and fit a pattern, rising, from after any triple on. [`Parts`] goes over the names of the parts.
+//! [`Spelled`] has the terms of some numbers in the order of their spellings, as a part's dictionaries want
+//! them.
 //!
 //! A clause sees a chain as what its parts say, newest first. Of the parts that name a triple the newest
 //! decides whether it stands. Where each part stands for a step of a history (`StandsFor`), numbers are
@@ -15,6 +16,7 @@
 mod chain;
 mod grown;
 mod law;
+mod linked;
 mod numbered;
 mod parts;
 #[cfg(test)]

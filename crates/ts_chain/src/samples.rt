@@ -1,8 +1,7 @@
 //! Chains told as constants, for the tests.
 
-ghost use Rattle.std.specs.Prelude.{◌≡◌, IsTrue, map};
+ghost use Rattle.std.specs.Prelude.{IsTrue};
 ghost use Rattle.ts_part.specs.Header.{KeepsHeaderRules, header_of};
-ghost use Rattle.ts_chain.specs.Chain.{AreLinked, GoesOnFrom};
 
 use crate::Chain;
 use std::alloc::{AllocError, Global};
@@ -280,34 +279,10 @@ pub(crate) fn chain_of(alloc: Global, samples: &[Sample]) -> Result<Chain, Fail>
     for sample in samples {
         parts.push(Rc::new(alloc, sample.part(alloc)?)?)?;
     }
-    if !are_linked(&parts) {
+    if !Chain::are_linked(&parts) {
         return Err("parts that don't go on from one another".into());
     }
     Ok(Chain::of_parts(alloc, parts)?)
-}
-
-/// Whether parts go on from one another, newest first.
-fn are_linked(parts: &[Rc<Part>]) -> bool
-    ensures { IsTrue result → AreLinked (map (λ part. part.value.facts) parts.now) }
-{
-    if parts.is_empty() {
-        return false;
-    }
-    for i in 1..parts.len() {
-        if !goes_on(&parts[i - 1], &parts[i]) {
-            return false;
-        }
-    }
-    parts[parts.len() - 1].header().parent == None
-}
-
-fn goes_on(part: &Part, next: &Part) -> bool
-    ensures { IsTrue result → GoesOnFrom part.now.facts next.now.facts }
-{
-    let (above, below) = (part.header(), next.header());
-    above.parent == Some(below.number)
-        && above.terms_before == below.terms_before + below.nodes + below.values
-        && above.predicates_before == below.predicates_before + below.predicates
 }
 
 fn append_terms(

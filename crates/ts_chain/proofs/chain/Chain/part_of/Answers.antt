@@ -3,7 +3,7 @@ use Rattle.std.proofs.lemmas.List.Elements.{All-contains}
 use Rattle.ts_part.specs.Loaded.{LoadedPart}
 use Rattle.ts_part.specs.Rules.{KeepsRules}
 use Rattle.ts_chain.specs.Chain.{IsChain}
-use Rattle.ts_chain.proofs.EntryKinds.{contains_at}
+use Rattle.ts_chain.proofs.Elements.{contains_at}
 use Rattle.ts_chain.proofs.NumberRanges.{place_within}
 use Rattle.ts_chain.proofs.Turns.{stands_at}
 use Rattle.ts_chain.proofs.chain.Chain.part_of.Goals as goal

@@ -7,28 +7,28 @@ use Rattle.ts_chain.proofs.chain.Chain.stands.Goals as goal
 
 pub returns-then-has : goal.returns-then-has
 returns-then-has c =
-    let part = c.part-item.result.value.facts in
-    let e = turn (λ part. part.value.facts) c.self.inside.parts.items c.deref-part-items.result.now c.args.self.now c.loop-part.part-index c.part-item.result c.self.view_is c.deref-part-items.ensures.value c.part-item.is (omega (arith, c.deref-part-items.ensures.len)) in
+    let part = c.newest-item.result.value.facts in
+    let e = turn (λ part. part.value.facts) c.self.inside.parts.items c.deref-newest-items.result.now c.args.self.now c.loop-newest.newest-index c.newest-item.result c.self.view_is c.deref-newest-items.ensures.value c.newest-item.is (omega (arith, c.deref-newest-items.ensures.len)) in
     let added = c.additions.ensures ∙ ap (λ (p : LoadedPart). p.facts.additions) c.deref.ensures in
     let comes : has part.additions c.args.t ≡ true = sym (has_tells _ _ _ c.has.ensures ∙ ap (λ l. has l c.args.t) added) ∙ c.if-has.true in
-    comes_here part (drop (c.loop-part.part-index + 1) c.args.self.now) _ c.args.self.now c.args.t e c.loop-part.invariant comes
+    comes_here part (drop (c.loop-newest.newest-index + 1) c.args.self.now) _ c.args.self.now c.args.t e c.loop-newest.invariant comes
 
 pub returns-then-has-2 : goal.returns-then-has-2
 returns-then-has-2 c =
-    let part = c.part-item.result.value.facts in
-    let e = turn (λ part. part.value.facts) c.self.inside.parts.items c.deref-part-items.result.now c.args.self.now c.loop-part.part-index c.part-item.result c.self.view_is c.deref-part-items.ensures.value c.part-item.is (omega (arith, c.deref-part-items.ensures.len)) in
+    let part = c.newest-item.result.value.facts in
+    let e = turn (λ part. part.value.facts) c.self.inside.parts.items c.deref-newest-items.result.now c.args.self.now c.loop-newest.newest-index c.newest-item.result c.self.view_is c.deref-newest-items.ensures.value c.newest-item.is (omega (arith, c.deref-newest-items.ensures.len)) in
     let added = c.additions.ensures ∙ ap (λ (p : LoadedPart). p.facts.additions) c.deref.ensures in
-    let removed = c.removals.ensures ∙ ap (λ (p : LoadedPart). p.facts.removals) c.deref-in-loop-part.ensures in
+    let removed = c.removals.ensures ∙ ap (λ (p : LoadedPart). p.facts.removals) c.deref-in-loop-newest.ensures in
     let comes : has part.additions c.args.t ≡ false = sym (has_tells _ _ _ c.has.ensures ∙ ap (λ l. has l c.args.t) added) ∙ c.if-has.false in
-    let goes : has part.removals c.args.t ≡ true = sym (has_tells _ _ _ c.has-in-loop-part.ensures ∙ ap (λ l. has l c.args.t) removed) ∙ c.if-has-2.true in
-    goes_here part (drop (c.loop-part.part-index + 1) c.args.self.now) _ c.args.self.now c.args.t e c.loop-part.invariant comes goes
+    let goes : has part.removals c.args.t ≡ true = sym (has_tells _ _ _ c.has-in-loop-newest.ensures ∙ ap (λ l. has l c.args.t) removed) ∙ c.if-has-2.true in
+    goes_here part (drop (c.loop-newest.newest-index + 1) c.args.self.now) _ c.args.self.now c.args.t e c.loop-newest.invariant comes goes
 
-pub loop-part-preserved : goal.loop-part-preserved
-loop-part-preserved c =
-    let part = c.part-item.result.value.facts in
-    let e = turn (λ part. part.value.facts) c.self.inside.parts.items c.deref-part-items.result.now c.args.self.now c.loop-part.part-index c.part-item.result c.self.view_is c.deref-part-items.ensures.value c.part-item.is (omega (arith, c.deref-part-items.ensures.len)) in
+pub loop-newest-preserved : goal.loop-newest-preserved
+loop-newest-preserved c =
+    let part = c.newest-item.result.value.facts in
+    let e = turn (λ part. part.value.facts) c.self.inside.parts.items c.deref-newest-items.result.now c.args.self.now c.loop-newest.newest-index c.newest-item.result c.self.view_is c.deref-newest-items.ensures.value c.newest-item.is (omega (arith, c.deref-newest-items.ensures.len)) in
     let added = c.additions.ensures ∙ ap (λ (p : LoadedPart). p.facts.additions) c.deref.ensures in
-    let removed = c.removals.ensures ∙ ap (λ (p : LoadedPart). p.facts.removals) c.deref-in-loop-part.ensures in
+    let removed = c.removals.ensures ∙ ap (λ (p : LoadedPart). p.facts.removals) c.deref-in-loop-newest.ensures in
     let comes : has part.additions c.args.t ≡ false = sym (has_tells _ _ _ c.has.ensures ∙ ap (λ l. has l c.args.t) added) ∙ c.if-has.false in
-    let goes : has part.removals c.args.t ≡ false = sym (has_tells _ _ _ c.has-in-loop-part.ensures ∙ ap (λ l. has l c.args.t) removed) ∙ c.if-has-2.false in
-    passed_by part (drop (c.loop-part.part-index + 1) c.args.self.now) _ c.args.self.now c.args.t e c.loop-part.invariant comes goes
+    let goes : has part.removals c.args.t ≡ false = sym (has_tells _ _ _ c.has-in-loop-newest.ensures ∙ ap (λ l. has l c.args.t) removed) ∙ c.if-has-2.false in
+    passed_by part (drop (c.loop-newest.newest-index + 1) c.args.self.now) _ c.args.self.now c.args.t e c.loop-newest.invariant comes goes
