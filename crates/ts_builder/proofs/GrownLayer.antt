@@ -3,7 +3,6 @@ use Rattle.std.proofs.Common.{◌≡◌, ℕ, ◌<◌, Bool, true, false, List, 
 use Rattle.std.specs.FinMap.{contains_key, empty}
 use Rattle.std.specs.Option.{is_some, option_and_then}
 use Rattle.std.proofs.lemmas.List.Elements.{All-contains, All-head}
-use Rattle.ts_model.specs.Limits.{number_limit}
 use Rattle.ts_model.specs.TextTriple.{TextTriple, IsTriple}
 use Rattle.ts_model.specs.Order.{triple_cmp, triple_cmp_total}
 use Rattle.ts_model.specs.Sets.{contains, from_list}
@@ -16,8 +15,7 @@ use Rattle.ts_chain.specs.Chain.{layer_of}
 use Rattle.ts_chain.specs.Holds.{Holds}
 use Rattle.ts_chain.specs.Stands.{AreStepsTo, StandsForOption}
 use Rattle.ts_chain.proofs.GrownHistories.{IsLayerKept-new, IsWellKept-grown, ParentStands, get-new}
-use Rattle.ts_builder.specs.Change.{IsChangeOver, IsNumberOver}
-use Rattle.ts_builder.specs.Layer.{layer_of_net, with_layer}
+use Rattle.ts_builder.specs.Layer.{IsNewLayer, layer_of_net, with_layer}
 use Rattle.ts_builder.specs.Net.{NetTriples}
 use Rattle.ts_builder.proofs.NetLemmas.{contains_from_among, held_at}
 
@@ -55,16 +53,6 @@ each_of P triples q all is =
 not_true : (b : Bool) → (b ≡ true → ⊥) → b ≡ false
 not_true true h = absurd (h refl)
 not_true false h = refl
-
--- what a new layer is made of
-pub record IsNewLayer (history : History) (from : Option ℕ) (parts : List Facts) (number : ℕ) (net : NetTriples) : Type 0 where
-  pub fresh : contains_key history number ≡ false
-  pub stands : StandsForOption parts history from
-  pub change : IsChangeOver parts net
-  pub over : IsNumberOver parts number
-  pub small : number < number_limit
-  pub added : All IsTriple net.additions
-  pub removed : All IsTriple net.removals
 
 module _ (history : History) (from : Option ℕ) (parts : List Facts) (number : ℕ) (net : NetTriples) (new : IsNewLayer history from parts number net) where
   pub kept : IsWellKept history

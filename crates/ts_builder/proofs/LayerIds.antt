@@ -1,5 +1,5 @@
 -- The numbers that a layer gives to the terms of its net change are those of its history.
-use Rattle.std.proofs.Common.{◌≡◌, ℕ, ◌⊎◌, inl, inr, Bool, true, false, not, List, [], ◌∷◌, length, map, filter, All, Option, None, Some, refl, sym, ap, ◌∙◌, subst, true≢false}
+use Rattle.std.proofs.Common.{◌≡◌, ℕ, ◌⊎◌, inl, inr, Bool, true, false, not, List, [], ◌∷◌, length, map, filter, All, Option, None, Some, refl, sym, ap, ◌∙◌, subst}
 use Rattle.std.specs.FinMap.{empty}
 use Rattle.std.specs.Ordering.{eq_by_cmp}
 use Rattle.std.specs.List.{AllZip, list_any}
@@ -38,14 +38,14 @@ use Rattle.ts_chain.proofs.GrownHistories.{ParentStands, get-new, same_numbers, 
 use Rattle.ts_chain.proofs.IdOrder.{triple_cmp_total as id_cmp_total, triple_cmp-IsAntisymmetric as id_cmp-IsAntisymmetric}
 use Rattle.ts_chain.proofs.IdsAtLayers.{id_at, new_in_step, step_has_new}
 use Rattle.ts_chain.proofs.StepsLink.{steps_total}
-use Rattle.ts_builder.specs.Layer.{layer_of_net, with_layer}
+use Rattle.ts_builder.specs.Layer.{IsNewLayer, layer_of_net, with_layer}
 use Rattle.ts_builder.specs.Net.{NetTriples}
 use Rattle.ts_builder.specs.NewTerms.{new_predicates_of, new_terms_of, numbered_by}
 use Rattle.ts_builder.specs.Numbering.{AreIdsBy, AreNumbersBy, IsNumberBy, new_facts}
-use Rattle.ts_builder.proofs.GrownLayer.{IsNewLayer, each_of, kept, kept_grown, parent_is, step_new, stood}
+use Rattle.ts_builder.proofs.GrownLayer.{each_of, kept, kept_grown, parent_is, step_new, stood}
 use Rattle.ts_builder.proofs.LayerTerms.{below, new_at_layer, nodes_are, relations_are, values_are}
 use Rattle.ts_builder.proofs.NetLemmas.{among_from_contains, each_contained}
-use Rattle.ts_builder.proofs.TermLemmas.{known_is_not_new, new_entry, new_where_lacked}
+use Rattle.ts_builder.proofs.TermLemmas.{new_entry, new_where_lacked, not_both}
 
 -- ---- lists
 
@@ -59,9 +59,6 @@ zip_map {X} {Y} R f (x ∷ xs) (y ∷ ys) all each = λ i.
 false_where_not : (b : Bool) → not b ≡ true → b ≡ false
 false_where_not true e = sym e
 false_where_not false e = refl
-
-not_both : (parts : List Facts) (term : TextTerm) (id : ℕ) → HasId parts term id → Lacks parts term → ⊥
-not_both parts term id has lacks = true≢false (sym (new_where_lacked parts term lacks) ∙ known_is_not_new parts term id has)
 
 no_members : size (empty {X = Unit {0}} {R = term_cmp}) ≡ 0
 unfolding IsStrictlySortedBy

@@ -10,9 +10,9 @@ use Rattle.ts_part.specs.Rules.{KeepsRules}
 use Rattle.ts_part.specs.Step.{LayerSays, layer_facts, new_terms}
 use Rattle.ts_part.proofs.LayerStep.{layer_totals}
 use Rattle.ts_part.proofs.StepRules.{layer_rules}
-use Rattle.ts_builder.specs.Layer.{AreFactsOf, with_layer}
+use Rattle.ts_builder.specs.Layer.{AreFactsOf, IsNewLayer, with_layer}
 use Rattle.ts_builder.specs.Net.{NetTriples}
-use Rattle.ts_builder.proofs.GrownLayer.{IsNewLayer, kept_grown, layer_is, parent_is, stands_new}
+use Rattle.ts_builder.proofs.GrownLayer.{kept_grown, layer_is, parent_is, stands_new}
 use Rattle.ts_builder.proofs.LayerIds.{added_ids, made, made_is, removed_ids}
 
 module _ (history : History) (from : Option ℕ) (parts : List Facts) (number : ℕ) (net : NetTriples) (new : IsNewLayer history from parts number net) where

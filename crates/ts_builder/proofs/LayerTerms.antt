@@ -25,10 +25,10 @@ use Rattle.ts_part.proofs.Ranks.{each_among}
 use Rattle.ts_chain.specs.Stands.{StandsForOption}
 use Rattle.ts_chain.proofs.GrownHistories.{added_along-new, added_from, same_terms}
 use Rattle.ts_chain.proofs.IdsAtLayers.{has_id_at, id_at}
-use Rattle.ts_builder.specs.Layer.{layer_of_net, with_layer}
+use Rattle.ts_builder.specs.Layer.{IsNewLayer, layer_of_net, with_layer}
 use Rattle.ts_builder.specs.Net.{NetTriples}
 use Rattle.ts_builder.specs.NewTerms.{is_new_to, new_predicates_of, new_terms_of}
-use Rattle.ts_builder.proofs.GrownLayer.{IsNewLayer, above, kept, kept_grown, stood}
+use Rattle.ts_builder.proofs.GrownLayer.{above, kept, kept_grown, stood}
 use Rattle.ts_builder.proofs.TermLemmas.{has_some, id_where_some, known_is_not_new}
 
 -- ---- what the parts lack, the layer lacks

@@ -1,12 +1,15 @@
 pub mod BuildLemmas
 pub mod GrownLayer
+pub mod HeadLemmas
 pub mod IdLemmas
 pub mod LayerIds
 pub mod LayerSays
 pub mod LayerTerms
-pub mod Linking
+pub mod LayerTotals
+pub mod LookupLemmas
 pub mod NetLemmas
+pub mod NumberLemmas
 pub mod PickLemmas
-pub mod PlaceLemmas
+pub mod RankLemmas
 pub mod TermLemmas
 pub mod ZipLemmas

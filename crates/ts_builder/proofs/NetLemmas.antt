@@ -20,10 +20,11 @@ use Rattle.ts_model.proofs.SetAlgebra.{contains-difference, contains-empty}
 use Rattle.ts_part.specs.Facts.{Facts}
 use Rattle.ts_chain.specs.Holds.{Holds}
 use Rattle.ts_chain.specs.Stands.{StandsForOption}
+use Rattle.ts_chain.proofs.Elements.{contains_first, contains_rest}
 use Rattle.ts_chain.proofs.HoldsAtLayers.{holds_at}
 use Rattle.ts_builder.specs.Change.{IsChangeOver, IsNetAt, IsNetOf, IsRisingNet}
 use Rattle.ts_builder.specs.Picks.{IsChange, IsDue, Picks}
-use Rattle.ts_builder.proofs.PickLemmas.{contains_first, contains_rest, picked_from, picked_rise, picked_to}
+use Rattle.ts_builder.proofs.PickLemmas.{picked_from, picked_rise, picked_to}
 
 -- ---- triples of a list
 
@@ -246,6 +247,12 @@ net_changes parts body additions removals a r = record {
   lacks = net_due Add parts body a.lines additions a.each a.signs a.picks;
   has = net_due Remove parts body r.lines removals r.each r.signs r.picks;
 }
+
+pub net_kinds : (sign : Sign) (parts : List Facts) (body : List SignedTriple) (triples : List TextTriple) → IsPicked sign parts body triples → All IsTriple triples
+net_kinds sign parts body triples picked =
+    each_contained IsTriple triples (λ q there.
+    let found = picked_from (IsChange sign parts) picked.lines triples picked.picks q there in
+    subst IsTriple found.2 (All-contains (λ line. line.sign ≡ sign → IsTriple line.triple) picked.lines found.0 picked.kinds found.1 found.3.asks))
 
 pub net_stands : (parts : List Facts) (body : List SignedTriple) (additions removals : List TextTriple) → IsPicked Add parts body additions → IsPicked Remove parts body removals
     → (history : History) (from : Option ℕ) → StandsForOption parts history from → IsNetAt history from body (record { additions = additions; removals = removals })

@@ -1,5 +1,5 @@
 -- The triples of those lines of a list of which something holds.
-use Rattle.std.proofs.Common.{◌≡◌, ℕ, zero, suc, ◌+◌, ◌<◌, ◌⊎◌, inl, inr, List, [], ◌∷◌, ◌++◌, map, take, length, get_or, Bor, Contains, refl, sym, ap, ◌∙◌, subst, arith}
+use Rattle.std.proofs.Common.{◌≡◌, ℕ, ◌+◌, ◌<◌, inl, inr, List, [], ◌∷◌, ◌++◌, map, take, length, get_or, Bor, Contains, refl, sym, ap, ◌∙◌, subst, arith}
 use Rattle.std.specs.List.{AllByRecursion}
 use Rattle.std.specs.List.Sorted.{IsStrictlySortedBy}
 use Rattle.std.specs.declared.cmp.Ordering.TheVariants.{Less}
@@ -7,19 +7,10 @@ use Rattle.std.proofs.lemmas.List.{map-append, take_more}
 use Rattle.ts_model.specs.declared.signed.SignedTriple.{SignedTriple}
 use Rattle.ts_model.specs.TextTriple.{TextTriple}
 use Rattle.ts_model.specs.Order.{triple_cmp}
+use Rattle.ts_chain.proofs.Elements.{contains_first, contains_rest}
 use Rattle.ts_builder.specs.Picks.{Picks}
 
 -- ---- one element more
-
-pub contains_first : {X : Type 0} (x : X) (xs : List X) (y : X) → Contains (x ∷ xs) y → (x ≡ y) ⊎ Contains xs y
-contains_first {X} x xs y h = at h.0 h.1 h.2
-  where
-    at : (i : ℕ) → i < suc (length xs) → get_or (x ∷ xs) i y ≡ y → (x ≡ y) ⊎ Contains xs y
-    at zero below is = inl is
-    at (suc i) below is = inr (i, omega arith, is)
-
-pub contains_rest : {X : Type 0} (x : X) (xs : List X) (y : X) → Contains xs y → Contains (x ∷ xs) y
-contains_rest x xs y h = (suc h.0, omega (arith, h.1), h.2)
 
 pub one_more : {X : Type 0} (lines : List (Bor X)) (i : ℕ) (line : Bor X) → i < length lines → line ≡ get_or lines i line
     → map (λ (b : Bor X). b.now) (take (i + 1) lines) ≡ map (λ (b : Bor X). b.now) (take i lines) ++ (line.now ∷ [])

@@ -1,6 +1,5 @@
 -- The different terms of a list, and those of them that no part has.
-use Rattle.std.proofs.Common.{◌≡◌, ℕ, inl, inr, Bool, true, false, not, cond, ◌&&◌, ◌||◌, List, [], ◌∷◌, map, filter, slice_get, Bor, Option, None, Some, IfNone, IfSome, refl, sym, ap, ◌∙◌, true≢false}
-use Rattle.std.specs.Option.{is_some}
+use Rattle.std.proofs.Common.{◌≡◌, ℕ, inl, inr, Bool, true, false, not, ◌||◌, List, [], ◌∷◌, map, slice_get, Some, refl, sym, ap, ◌∙◌, true≢false}
 use Rattle.std.specs.declared.cmp.Ordering.{Ordering}
 use Rattle.std.specs.Ordering.{eq_by_cmp, on}
 use Rattle.std.specs.Cmp.{Equal-is, IsTotalOrder, on_total}
@@ -9,16 +8,16 @@ use Rattle.std.specs.List.{dedup, list_any}
 use Rattle.std.specs.List.Sorted.{IsPermutation, IsSorted, IsStrictlySortedBy}
 use Rattle.std.proofs.lemmas.Bool.{or_left, or_right}
 use Rattle.std.proofs.lemmas.List.Elements.{All-head, All-tail}
-use Rattle.std.proofs.lemmas.List.Kept.{IsStrictlySortedBy-dedup, IsStrictlySortedBy-filter}
+use Rattle.std.proofs.lemmas.List.Kept.{IsStrictlySortedBy-dedup}
 use Rattle.std.proofs.lemmas.List.Sorted.{list_any-IsPermutation}
 use Rattle.ts_model.specs.declared.term.TermKind.{TermKind}
 use Rattle.ts_model.specs.declared.term.TermKind.TheVariants.{Node, Predicate, Value}
 use Rattle.ts_model.specs.TextTerm.{TextTerm}
 use Rattle.ts_model.specs.Birth.{is_term}
 use Rattle.ts_model.specs.Order.{term_cmp, term_cmp_total, term_cmp-IsAntisymmetric}
-use Rattle.ts_model.specs.Sets.{SetOf, contains, from_list, members, retain}
+use Rattle.ts_model.specs.Sets.{contains, from_list, members}
 use Rattle.ts_model.proofs.ListLaws.{list_any-map, list_any-dedup, IsStrictlySortedBy-map}
-use Rattle.ts_model.proofs.SetLaws.{contains-from_list, contains-members, contains-retain, members_are, IsStrictlySortedBy-members}
+use Rattle.ts_model.proofs.SetLaws.{contains-from_list, members_are}
 use Rattle.ts_part.specs.Facts.{Facts, entries_of}
 use Rattle.ts_part.proofs.Ranks.{among_at, place_of}
 use Rattle.ts_chain.specs.Ids.{HasId, HasNew, HasOfKind, Lacks, LacksNew}
@@ -42,42 +41,6 @@ module _ {X K : Type 0} {R : K → K → Ordering} (o : IsTotalOrder R) (same : 
 
   pub distinct_are : (xs sorted : List X) → IsPermutation xs sorted → IsSorted (on key R) sorted → map key (dedup (eq_by_cmp (on key R)) sorted) ≡ members (from_list {R = R} (map key xs))
   distinct_are = distinct_by (eq_by_cmp (on key R)) (λ x y. refl)
-
--- ---- those that pass a test
-
-among_filter : (p : TextTerm → Bool) (terms : List TextTerm) (q : TextTerm) → list_any (is_term q) (filter p terms) ≡ (list_any (is_term q) terms && p q)
-among_filter p [] q = refl
-among_filter p (x ∷ xs) q = by (among_filter p xs q) (p x) refl (is_term q x) refl
-  where
-    own : is_term q x ≡ true → p q ≡ p x
-    own at = ap p (term_cmp-IsAntisymmetric q x ((Equal-is (term_cmp q x)).0 at))
-
-    neither : (a b : Bool) → b ≡ false → (a && b) ≡ false
-    neither true b e = e
-    neither false b e = refl
-
-    by : list_any (is_term q) (filter p xs) ≡ (list_any (is_term q) xs && p q) → (passes : Bool) → p x ≡ passes → (here : Bool) → is_term q x ≡ here
-        → list_any (is_term q) (cond passes (x ∷ filter p xs) (filter p xs)) ≡ ((here || list_any (is_term q) xs) && p q)
-    by below true is true at = ap (λ b. b || list_any (is_term q) (filter p xs)) at ∙ sym (own at ∙ is)
-    by below true is false at = ap (λ b. b || list_any (is_term q) (filter p xs)) at ∙ below
-    by below false is true at = below ∙ neither (list_any (is_term q) xs) (p q) (own at ∙ is) ∙ sym (own at ∙ is)
-    by below false is false at = below
-
-pub filtered_members : (p : TextTerm → Bool) (set : SetOf term_cmp) → filter p (members set) ≡ members (retain set p)
-filtered_members p set =
-    members_are term_cmp term_cmp_total term_cmp-IsAntisymmetric (retain set p) (filter p (members set))
-    (IsStrictlySortedBy-filter term_cmp p (members set) (IsStrictlySortedBy-members term_cmp set))
-    (λ q. among_filter p (members set) q ∙ ap (λ b. b && p q) (sym (contains-members term_cmp set q))
-    ∙ sym (contains-retain term_cmp set p q (λ x e. ap p (sym (term_cmp-IsAntisymmetric q x e)))))
-
-abbrev now : List (Bor TextTerm) → List TextTerm
-now terms = map (λ (term : Bor TextTerm). term.now) terms
-
--- the different ones of given terms, as far as they pass a test
-pub passing_members : (p : TextTerm → Bool) (given : List TextTerm) (found distinct lent : List (Bor TextTerm)) → now found ≡ given → now distinct ≡ members (from_list {R = term_cmp} (now found))
-    → lent ≡ distinct → filter p (now lent) ≡ members (retain (from_list {R = term_cmp} given) p)
-passing_members p given found distinct lent all each same =
-    ap (λ terms. filter p (now terms)) same ∙ ap (filter p) each ∙ ap (λ terms. filter p (members (from_list {R = term_cmp} terms))) all ∙ filtered_members p (from_list given)
 
 -- ---- terms that no part has
 
@@ -120,12 +83,8 @@ new_where_lacked parts term lacks = ap not (absent_entry parts term lacks)
 pub known_is_not_new : (parts : List Facts) (term : TextTerm) (id : ℕ) → HasId parts term id → is_new_to parts term ≡ false
 known_is_not_new parts term id has = ap not (known_entry parts term id has)
 
-pub is_new_by : (parts : List Facts) (term : TextTerm) (found : Option ℕ) (none : Bool) → IfSome found (HasId parts term) → IfNone found (Lacks parts term) → is_some found ≡ not none
-    → none ≡ is_new_to parts term
-is_new_by parts term None true has lacks e = sym (new_where_lacked parts term lacks)
-is_new_by parts term None false has lacks e = absurd (true≢false (sym e))
-is_new_by parts term (Some id) true has lacks e = absurd (true≢false e)
-is_new_by parts term (Some id) false has lacks e = sym (known_is_not_new parts term id has)
+pub not_both : (parts : List Facts) (term : TextTerm) (id : ℕ) → HasId parts term id → Lacks parts term → ⊥
+not_both parts term id has lacks = true≢false (sym (new_where_lacked parts term lacks) ∙ known_is_not_new parts term id has)
 
 new_from_entry : (part : Facts) (term : TextTerm) → list_any (is_term term) (numbered_by term.kind part) ≡ true → (number : ℕ) × HasNew part term number
 new_from_entry part term is = by term.kind is

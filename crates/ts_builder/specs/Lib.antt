@@ -2,5 +2,8 @@ pub mod Net
 pub mod Change
 pub mod Picks
 pub mod NewTerms
+pub mod Ranks
+pub mod Lookups
+pub mod Counting
 pub mod Numbering
 pub mod Layer

@@ -1,8 +1,9 @@
 -- The numbers that a new layer has for terms: those of the chain, and new ones behind.
-use Rattle.std.specs.Prelude.{◌≡◌, ℕ, ◌<◌, ◌≤◌, ◌⊎◌, List, [], All, None, IfSome, IsTrue, filter}
+use Rattle.std.specs.Prelude.{◌≡◌, ℕ, ◌<◌, ◌≤◌, ◌⊎◌, List, [], All, Option, None, Some, IfSome, IsTrue, filter}
 use Rattle.std.specs.List.{AllZip, list_any}
 use Rattle.std.specs.List.Sorted.{IsStrictlySortedBy}
-use Rattle.ts_model.specs.declared.term.TermKind.TheVariants.{Node, Value}
+use Rattle.ts_model.specs.declared.term.TermKind.{TermKind}
+use Rattle.ts_model.specs.declared.term.TermKind.TheVariants.{Node, Predicate, Value}
 use Rattle.ts_model.specs.Birth.{is_term}
 use Rattle.ts_model.specs.Limits.{number_limit}
 use Rattle.ts_model.specs.Order.{term_cmp}
@@ -16,6 +17,8 @@ use Rattle.ts_part.specs.Facts.{Facts, all_predicates, all_terms}
 use Rattle.ts_part.specs.Step.{is_of_kind}
 use Rattle.ts_chain.specs.Chain.{layer_of, predicates_in, terms_in}
 use Rattle.ts_chain.specs.Ids.{HasId, HasNew, Lacks}
+use Rattle.ts_builder.specs.declared.terms.Found.{Found}
+use Rattle.ts_builder.specs.Lookups.{lacked}
 use Rattle.ts_builder.specs.NewTerms.{new_predicates_of, new_terms_of, numbered_by}
 
 -- a layer's new terms behind so many, and no triples
@@ -66,6 +69,24 @@ pub record AreNumbersBy (parts : List Facts) (new : Facts) (triple : TextTriple)
   pub subject : IsNumberBy parts new triple.subject t.s
   pub predicate : IsNumberBy parts new triple.predicate t.p
   pub object : IsNumberBy parts new triple.object t.o
+
+-- the chain's number, or of a term that it lacks the layer's
+abbrev pub IsNumberOf : Facts → TextTerm → Option ℕ → ℕ → Type 0
+IsNumberOf new term None number = HasNew new term number
+IsNumberOf new term (Some id) number = number ≡ id
+
+abbrev pub new_of_kind : TermKind → Facts → List TextTerm
+new_of_kind Node new = new.nodes
+new_of_kind Predicate new = new.predicates
+new_of_kind Value new = new.values
+
+-- where the chain lacks terms of a kind, they are the layer's new ones of it
+abbrev pub AreNew : Facts → List Found → Type 0
+AreNew new found = All (λ (one : Found). one.id ≡ None → filter (is_of_kind one.term.now.kind) (lacked found) ≡ new_of_kind one.term.now.kind new) found
+
+-- the numbers are those of the terms, one for each
+abbrev pub AreNumbersOf : Facts → List Found → List ℕ → Type 0
+AreNumbersOf new found numbers = AllZip (λ (one : Found) (number : ℕ). IsNumberOf new one.term.now one.id number) found numbers
 
 -- triples by their numbers, rising, each once
 pub record AreIdsBy (parts : List Facts) (new : Facts) (triples : List TextTriple) (ids : List IdTriple) : Type 0 where

@@ -1,28 +1,32 @@
 //! The file of a new layer.
 
-ghost use Rattle.std.specs.Prelude.{◌≡◌, ◌↔◌, ◌+◌, ◌<◌, ◌≤◌, ◌⊎◌, ℕ, false, IfErr, IfOk, IfSome, IsTrue, Option, map};
+ghost use Rattle.std.specs.Prelude.{◌≡◌, ◌↔◌, ◌+◌, ◌<◌, ◌≤◌, ◌⊎◌, ℕ, false, All, IfErr, IfOk, IfSome, IsTrue, Option, map};
 ghost use Rattle.std.specs.FinMap.{contains_key};
 ghost use Rattle.std.specs.Option.{option_map};
 ghost use Rattle.ts_model.specs.History.{History};
 ghost use Rattle.ts_model.specs.Limits.{number_limit};
+ghost use Rattle.ts_model.specs.TextTriple.{IsTriple};
 ghost use Rattle.ts_chain.specs.Begins.{BeginsOver};
 ghost use Rattle.ts_chain.specs.Chain.{IsChain, layer_of, parts_or_none, predicates_in, terms_in};
+ghost use Rattle.ts_chain.specs.Holds.{Holds};
 ghost use Rattle.ts_chain.specs.Stands.{StandsForOption};
 ghost use Rattle.ts_part.specs.Step.{LayerSays};
 ghost use Rattle.ts_part.specs.declared.header.PartKind.TheVariants.{Layer};
 ghost use Rattle.ts_builder.specs.Change.{IsChangeOver, IsNumberOver};
 ghost use Rattle.ts_builder.specs.Layer.{AreFactsOf, with_layer};
 ghost use Rattle.ts_builder.specs.NewTerms.{IsOver};
+ghost use Rattle.ts_builder.specs.Lookups.{IsLookup};
 ghost use Rattle.ts_builder.specs.Numbering.{IsBelow, IsNumbering, made_of};
 
 use crate::net::Net;
 use crate::numbers::{Numbering, ids_of};
-use crate::terms::{new_predicates, new_terms, of_kind};
+use crate::terms::{Lookup, lacking, look_up, of_kind};
 use std::alloc::{AllocError, Global};
 use thiserror::Error;
 use ts_chain::Chain;
 use ts_model::{NUMBER_LIMIT, Term, TermKind};
 use ts_part::{PartFacts, PartKind, write_part};
+use ts_plane::IdTriple;
 
 /// Why there is no file.
 #[derive(Debug, Drop, Error)]
@@ -62,39 +66,43 @@ pub fn build(
         → StandsForOption (parts_or_none (option_map (λ chain. chain.now) parent.entry)) history from
         → IfOk result (λ file. LayerSays file.items (with_layer history number from net.now) number) }
 {
-    let new = numbering(alloc, parent, net)?;
-    let facts = facts_of(alloc, parent, number, &new, net)?;
+    let (new, added) = numbering(alloc, parent, net)?;
+    let facts = facts_of(alloc, parent, number, &new, added, net)?;
     Ok(write_part(alloc, &facts)?)
 }
 
-/// The new terms of the layer, behind those of its chain.
+/// The new terms of the layer, behind those of its chain, and the terms of the additions.
 fn numbering<'a>(
     alloc: Global,
     parent: Option<&Chain>,
     net: &'a Net,
-) -> Result<Numbering<'a>, BuildError>
-    ensures made { IfOk result (λ new. new ≡ made_of (parts_or_none (option_map (λ chain. chain.now) parent.entry)) net.now.additions) }
-    ensures fits { IfOk result IsNumbering }
+) -> Result<(Numbering<'a>, Lookup<'a>), BuildError>
+    ensures made { IfOk result (λ made. made.0 ≡ made_of (parts_or_none (option_map (λ chain. chain.now) parent.entry)) net.now.additions) }
+    ensures lookup { IfOk result (λ made. IsLookup (parts_or_none (option_map (λ chain. chain.now) parent.entry)) net.now.additions made.1) }
+    ensures kinds { IfOk result (λ _. All IsTriple net.now.additions) }
+    ensures fits { IfOk result (λ made. IsNumbering made.0) }
     ensures below { IfOk result (λ _. IsBelow (parts_or_none (option_map (λ chain. chain.now) parent.entry))) }
     ensures full { IfErr result (λ error. error ≡ BuildError.Full
         → IsOver (parts_or_none (option_map (λ chain. chain.now) parent.entry)) net.now.additions) }
     ensures room { IfOk result (λ _. ¬ IsOver (parts_or_none (option_map (λ chain. chain.now) parent.entry)) net.now.additions) }
 {
     let before = before_of(parent);
-    let terms = new_terms(alloc, parent, net.additions())?;
-    let predicates = new_predicates(alloc, parent, net.additions())?;
+    let added = look_up(alloc, parent, net.additions())?;
+    let terms = lacking(alloc, &added.ends.found)?;
+    let predicates = lacking(alloc, &added.relations.found)?;
     if is_over(before, terms.len(), predicates.len()) {
         return Err(BuildError::Full);
     }
     let nodes = of_kind(alloc, TermKind::Node, &terms)?;
     let values = of_kind(alloc, TermKind::Value, &terms)?;
-    Ok(Numbering {
+    let new = Numbering {
         terms_before: before.terms,
         predicates_before: before.predicates,
         nodes,
         predicates,
         values,
-    })
+    };
+    Ok((new, added))
 }
 
 /// What the file says.
@@ -103,11 +111,19 @@ fn facts_of(
     parent: Option<&Chain>,
     number: u32,
     new: &Numbering<'_>,
+    added: Lookup<'_>,
     net: &Net,
 ) -> Result<PartFacts, AllocError>
-    requires { IsNumbering new.now }
+    requires made { new.now ≡ made_of (parts_or_none (option_map (λ chain. chain.now) parent)) net.now.additions }
+    requires fits { IsNumbering new.now }
+    requires lookup { IsLookup (parts_or_none (option_map (λ chain. chain.now) parent)) net.now.additions added }
+    requires kinds { All IsTriple net.now.additions }
+    requires held { All (Holds (parts_or_none (option_map (λ chain. chain.now) parent))) net.now.removals }
     ensures { IfOk result (λ facts. AreFactsOf (parts_or_none (option_map (λ chain. chain.now) parent.entry)) number new.now net.now facts) }
 {
+    let additions = ids_of(alloc, new, added)?;
+    let removed = look_up(alloc, parent, net.removals())?;
+    let removals = ids_of(alloc, new, removed)?;
     Ok(PartFacts {
         kind: PartKind::Layer,
         number,
@@ -117,8 +133,8 @@ fn facts_of(
         nodes: copies(alloc, &new.nodes)?,
         predicates: copies(alloc, &new.predicates)?,
         values: copies(alloc, &new.values)?,
-        additions: ids_of(alloc, parent, new, net.additions())?,
-        removals: ids_of(alloc, parent, new, net.removals())?,
+        additions,
+        removals,
         term_map: Vec::new(alloc),
         predicate_map: Vec::new(alloc),
     })

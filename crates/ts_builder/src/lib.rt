@@ -5,12 +5,16 @@
 //! the triples of the chain.
 #![tactic(auto)]
 
+mod heads;
+mod law;
 mod layer;
 mod net;
 mod numbers;
+mod ranks;
 mod terms;
 #[cfg(test)]
 mod tests;
 
+pub use law::new_layers_are_counted;
 pub use layer::{BuildError, build};
 pub use net::{Net, net_change};

@@ -64,6 +64,8 @@ pub fn net_change(
     ensures at { (history : History) (from : Option ℕ)
         → StandsForOption (parts_or_none (option_map (λ chain. chain.now) parent.entry)) history from
         → IfOk result (IsNetAt history from body.now) }
+    ensures added { IfOk result (λ net. All IsTriple net.additions) }
+    ensures removed { IfOk result (λ net. All IsTriple net.removals) }
 {
     let lines = last_signs(alloc, body)?;
     let additions = changed(alloc, parent, Sign::Add, &lines)?;

@@ -1,22 +1,19 @@
 //! The numbers of terms at a layer: those that the chain has keep theirs, and new ones go on behind.
 
-ghost use Rattle.std.specs.Prelude.{◌≡◌, ◌≤◌, All, IfOk, IsTrue, Some, length, map, slice_get};
-ghost use Rattle.std.specs.List.{list_any};
-ghost use Rattle.std.specs.List.Sorted.{IsStrictlySortedBy};
-ghost use Rattle.std.specs.Option.{option_map};
-ghost use Rattle.ts_model.specs.Birth.{is_term};
-ghost use Rattle.ts_model.specs.Order.{term_cmp};
-ghost use Rattle.ts_model.specs.TextTriple.{IsTriple};
-ghost use Rattle.ts_chain.specs.Chain.{parts_or_none};
-ghost use Rattle.ts_chain.specs.Ids.{HasNew};
-ghost use Rattle.ts_builder.specs.Numbering.{AreIdsBy, AreNumbersBy, IsNumberBy, IsNumbering};
-ghost use Rattle.ts_builder.specs.NewTerms.{numbered_by};
+ghost use Rattle.std.specs.Prelude.{◌≡◌, ◌+◌, ◌<◌, [], ◌∷◌, IfNone, IfOk, IfSome, List, filter, length, slice_index};
+ghost use Rattle.ts_model.specs.TextTriple.{TextTriple};
+ghost use Rattle.ts_model.specs.declared.term.TermKind.{TermKind};
+ghost use Rattle.ts_part.specs.Facts.{Facts};
+ghost use Rattle.ts_part.specs.declared.header.PartKind.TheVariants.{Layer};
+ghost use Rattle.ts_part.specs.Step.{is_of_kind};
+ghost use Rattle.ts_builder.specs.Counting.{count_of, number_before, one_of};
+ghost use Rattle.ts_builder.specs.Lookups.{IsLookup, IsSomeLookup, lacked};
+ghost use Rattle.ts_builder.specs.Numbering.{AreIdsBy, AreNew, AreNumbersOf, IsNumbering};
 
-use crate::terms::known;
+use crate::terms::{Found, Lookup, Occurrences};
 use std::alloc::{AllocError, Global};
 use std::marker::Model;
-use ts_chain::Chain;
-use ts_model::{Term, TermKind, Triple};
+use ts_model::{Term, TermKind};
 use ts_plane::IdTriple;
 
 /// The new terms of a layer, each kind in the order of its spellings, behind those of its chain.
@@ -43,69 +40,134 @@ impl<'a> Model for Numbering<'a> {
 /// Triples by the numbers of their terms, rising, each once.
 pub(crate) fn ids_of(
     alloc: Global,
-    parent: Option<&Chain>,
     new: &Numbering<'_>,
-    triples: &[Triple],
+    terms: Lookup<'_>,
 ) -> Result<Vec<IdTriple>, AllocError>
-    requires { IsNumbering new.now }
-    ensures ids { IfOk result (λ ids. AreIdsBy (parts_or_none (option_map (λ chain. chain.now) parent.entry)) new.now triples.now ids.items) }
-    ensures kinds { IfOk result (λ _. All IsTriple triples.now) }
+    requires fits { IsNumbering new.now }
+    requires lookup { IsSomeLookup terms }
+    requires ends { AreNew new.now terms.ends.found.items }
+    requires relations { AreNew new.now terms.relations.found.items }
+    ensures { (parts : List Facts) (triples : List TextTriple) → IsLookup parts triples terms.entry
+        → IfOk result (λ ids. AreIdsBy parts new.now triples ids.items) }
 {
-    let mut ids = Vec::new(alloc);
-    for triple in triples {
-        ids.push(id_triple(parent, new, triple))?;
+    let Lookup { ends, relations } = terms;
+    let ends = numbers_of(alloc, new, ends)?;
+    let relations = numbers_of(alloc, new, relations)?;
+    let count = relations.places.len();
+    let mut ids = Vec::with_capacity(alloc, count)?;
+    for i in 0..count {
+        ids.push(IdTriple {
+            s: ends.at(i),
+            p: relations.at(i),
+            o: ends.at(count + i),
+        })?;
     }
     ids.sort_unstable();
     ids.dedup();
     Ok(ids)
 }
 
-fn id_triple(parent: Option<&Chain>, new: &Numbering<'_>, triple: &Triple) -> IdTriple
-    requires { IsNumbering new.now }
-    ensures numbers { AreNumbersBy (parts_or_none (option_map (λ chain. chain.now) parent.entry)) new.now triple.now result }
-    ensures kinds { IsTriple triple.now }
-{
-    IdTriple {
-        s: number_of(parent, new, triple.subject()),
-        p: number_of(parent, new, triple.predicate()),
-        o: number_of(parent, new, triple.object()),
+/// The numbers of different terms, and of each occurrence which of them it has.
+#[derive(Drop)]
+struct Numbered {
+    numbers: Vec<u64>,
+    places: Vec<usize>,
+}
+
+impl Numbered {
+    /// The number of an occurrence.
+    fn at(&self, i: usize) -> u64
+        requires place { i < length self.now.places.items }
+        requires number { slice_index self.now.places.items i < length self.now.numbers.items }
+        ensures { result ≡ slice_index self.now.numbers.items (slice_index self.now.places.items i) }
+    {
+        self.numbers[self.places[i]]
     }
 }
 
-/// The number of a term, and any where neither the chain nor the layer has it.
-fn number_of(parent: Option<&Chain>, new: &Numbering<'_>, term: &Term) -> u64
-    requires { IsNumbering new.now }
-    ensures { IsNumberBy (parts_or_none (option_map (λ chain. chain.now) parent.entry)) new.now term.now result }
+fn numbers_of(
+    alloc: Global,
+    new: &Numbering<'_>,
+    terms: Occurrences<'_>,
+) -> Result<Numbered, AllocError>
+    requires fits { IsNumbering new.now }
+    requires new { AreNew new.now terms.found.items }
+    ensures numbers { IfOk result (λ numbered. AreNumbersOf new.now terms.entry.found.items numbered.numbers.items) }
+    ensures places { IfOk result (λ numbered. numbered.places.items ≡ terms.entry.places.items) }
 {
-    match known(parent, term) {
-        Some(id) => id,
-        None => new_number(new, term),
+    Ok(Numbered {
+        numbers: numbers(alloc, new, &terms.found)?,
+        places: terms.places,
+    })
+}
+
+/// The number of each term: the chain's, or of a new one the next of its kind.
+fn numbers(alloc: Global, new: &Numbering<'_>, found: &[Found<'_>]) -> Result<Vec<u64>, AllocError>
+    requires fits { IsNumbering new.now }
+    requires new { AreNew new.now found.now }
+    ensures { IfOk result (λ numbers. AreNumbersOf new.now found.now numbers.items) }
+{
+    let mut last = last_of(new);
+    let mut numbers = Vec::with_capacity(alloc, found.len())?;
+    for one in found {
+        numbers.push(last.number_of(one))?;
+    }
+    Ok(numbers)
+}
+
+/// The last number that is given of each kind.
+#[derive(Drop)]
+struct Last {
+    node: u64,
+    predicate: u64,
+    value: u64,
+}
+
+/// Before the layer's terms. New nodes come before new values.
+fn last_of(new: &Numbering<'_>) -> Last
+    requires { IsNumbering new.now }
+    ensures counts { (kind : TermKind) → count_of kind result ≡ number_before kind new.now }
+    ensures layer { new.now.kind ≡ Layer }
+{
+    Last {
+        node: new.terms_before,
+        predicate: new.predicates_before,
+        value: new.terms_before + new.nodes.len() as u64,
     }
 }
 
-/// The number of a new term. New nodes come before new values.
-fn new_number(new: &Numbering<'_>, term: &Term) -> u64
-    requires { IsNumbering new.now }
-    ensures { IsTrue (list_any (is_term term.now) (numbered_by term.now.kind new.now)) → HasNew new.now term.now result }
-{
-    match term.kind() {
-        TermKind::Node => new.terms_before + 1 + place_in(&new.nodes, term) as u64,
-        TermKind::Predicate => new.predicates_before + 1 + place_in(&new.predicates, term) as u64,
-        TermKind::Value => {
-            new.terms_before + 1 + new.nodes.len() as u64 + place_in(&new.values, term) as u64
+impl Last {
+    /// The number that the chain has for a term, or else the next of its kind.
+    fn number_of(&mut self, found: &Found<'_>) -> u64
+        requires { IfNone found.now.id (count_of found.now.term.now.kind self.old < u64.MAX) }
+        ensures known { IfSome found.now.id (λ id. result ≡ id) }
+        ensures next { IfNone found.now.id (result ≡ count_of found.now.term.now.kind self.old + 1) }
+        ensures counts { (kind : TermKind) → count_of kind self.new ≡ count_of kind self.old + length (filter (is_of_kind kind) (lacked (found.now ∷ []))) }
+    {
+        match found.id {
+            Some(id) => id,
+            None => self.next(found.term.kind()),
         }
     }
-}
 
-/// The place of a term among rising ones.
-fn place_in(terms: &[&Term], term: &Term) -> usize
-    requires { IsStrictlySortedBy term_cmp (map (λ term. term.now) terms.now) }
-    ensures there { IsTrue (list_any (is_term term.now) (map (λ term. term.now) terms.now))
-        → slice_get (map (λ term. term.now) terms.now) result ≡ Some term.now }
-    ensures within { result ≤ length terms.now }
-{
-    match terms.binary_search(&term) {
-        Ok(place) => place,
-        Err(_) => 0,
+    fn next(&mut self, kind: TermKind) -> u64
+        requires { count_of kind self.old < u64.MAX }
+        ensures next { result ≡ count_of kind self.old + 1 }
+        ensures counts { (other : TermKind) → count_of other self.new ≡ count_of other self.old + one_of other kind }
+    {
+        match kind {
+            TermKind::Node => {
+                self.node += 1;
+                self.node
+            }
+            TermKind::Predicate => {
+                self.predicate += 1;
+                self.predicate
+            }
+            TermKind::Value => {
+                self.value += 1;
+                self.value
+            }
+        }
     }
 }

@@ -1,23 +1,20 @@
-//! The terms of additions that a chain lacks.
+//! The terms of triples, and what a chain has of them.
 
-ghost use Rattle.std.specs.Prelude.{◌≡◌, [], ◌∷◌, All, IfNone, IfOk, IfSome, filter, flat_map, map};
+ghost use Rattle.std.specs.Prelude.{◌≡◌, ◌++◌, All, IfOk, filter, map};
 ghost use Rattle.std.specs.Option.{option_map};
-ghost use Rattle.ts_model.specs.Order.{term_cmp};
-ghost use Rattle.ts_model.specs.Sets.{from_list, members};
 ghost use Rattle.ts_model.specs.TextTriple.{IsTriple};
 ghost use Rattle.ts_part.specs.Step.{is_of_kind};
 ghost use Rattle.ts_chain.specs.Chain.{parts_or_none};
-ghost use Rattle.ts_chain.specs.Ids.{HasId, Lacks};
-ghost use Rattle.ts_builder.specs.NewTerms.{is_new_to, new_predicates_of, new_terms_of};
+ghost use Rattle.ts_builder.specs.Lookups.{AreFound, IsIdOrNone, IsLookup, lacked};
 
+use crate::ranks::rank;
 use std::alloc::{AllocError, Global};
 use ts_chain::Chain;
 use ts_model::{Term, TermKind, Triple};
 
 /// The number that a chain has for a term.
-pub(crate) fn known(parent: Option<&Chain>, term: &Term) -> Option<u64>
-    ensures found { IfSome result (HasId (parts_or_none (option_map (λ chain. chain.now) parent.entry)) term.now) }
-    ensures absent { IfNone result (Lacks (parts_or_none (option_map (λ chain. chain.now) parent.entry)) term.now) }
+fn known(parent: Option<&Chain>, term: &Term) -> Option<u64>
+    ensures { IsIdOrNone (parts_or_none (option_map (λ chain. chain.now) parent.entry)) term.now result }
 {
     match parent {
         Some(chain) => id_in(chain, term),
@@ -26,8 +23,7 @@ pub(crate) fn known(parent: Option<&Chain>, term: &Term) -> Option<u64>
 }
 
 fn id_in(chain: &Chain, term: &Term) -> Option<u64>
-    ensures found { IfSome result (HasId chain.now term.now) }
-    ensures absent { IfNone result (Lacks chain.now term.now) }
+    ensures { IsIdOrNone chain.now term.now result }
 {
     let spelling = term.spelling();
     match term.kind() {
@@ -37,42 +33,67 @@ fn id_in(chain: &Chain, term: &Term) -> Option<u64>
     }
 }
 
-/// The nodes and values of additions that the chain lacks, rising, each once.
-pub(crate) fn new_terms<'a>(
+/// A term, and the number that the chain has for it.
+#[derive(Clone, Copy)]
+pub(crate) struct Found<'a> {
+    pub(crate) term: &'a Term,
+    pub(crate) id: Option<u64>,
+}
+
+/// The different terms of occurrences, rising, each looked up once, and of each occurrence which of them it is.
+#[derive(Drop)]
+pub(crate) struct Occurrences<'a> {
+    pub(crate) found: Vec<Found<'a>>,
+    pub(crate) places: Vec<usize>,
+}
+
+/// The terms of triples: the subjects with the objects behind them, and the predicates.
+#[derive(Drop)]
+pub(crate) struct Lookup<'a> {
+    pub(crate) ends: Occurrences<'a>,
+    pub(crate) relations: Occurrences<'a>,
+}
+
+/// Looks up the terms of triples in a chain, each different one once.
+pub(crate) fn look_up<'a>(
     alloc: Global,
     parent: Option<&Chain>,
     triples: &'a [Triple],
-) -> Result<Vec<&'a Term>, AllocError>
-    ensures terms { IfOk result (λ terms. map (λ term. term.now) terms.items
-        ≡ members (new_terms_of (parts_or_none (option_map (λ chain. chain.now) parent.entry)) triples.now)) }
+) -> Result<Lookup<'a>, AllocError>
+    ensures terms { IfOk result (IsLookup (parts_or_none (option_map (λ chain. chain.now) parent.entry)) triples.now) }
     ensures kinds { IfOk result (λ _. All IsTriple triples.now) }
 {
-    let terms = distinct(ends(alloc, triples)?);
-    lacking(alloc, parent, &terms)
+    Ok(Lookup {
+        ends: occurrences_of(alloc, parent, ends(alloc, triples)?)?,
+        relations: occurrences_of(alloc, parent, relations(alloc, triples)?)?,
+    })
 }
 
-/// The predicates of additions that the chain lacks, rising, each once.
-pub(crate) fn new_predicates<'a>(
+fn occurrences_of<'a>(
     alloc: Global,
     parent: Option<&Chain>,
-    triples: &'a [Triple],
-) -> Result<Vec<&'a Term>, AllocError>
-    ensures { IfOk result (λ terms. map (λ term. term.now) terms.items
-        ≡ members (new_predicates_of (parts_or_none (option_map (λ chain. chain.now) parent.entry)) triples.now)) }
+    terms: Vec<&'a Term>,
+) -> Result<Occurrences<'a>, AllocError>
+    ensures { IfOk result (AreFound (parts_or_none (option_map (λ chain. chain.now) parent.entry)) (map (λ term. term.now) terms.entry.items)) }
 {
-    let terms = distinct(relations(alloc, triples)?);
-    lacking(alloc, parent, &terms)
+    let ranked = rank(alloc, &terms)?;
+    Ok(Occurrences {
+        found: ask(alloc, parent, &ranked.terms)?,
+        places: ranked.places,
+    })
 }
 
-/// The subjects and objects.
+/// The subjects, and behind them the objects.
 fn ends<'a>(alloc: Global, triples: &'a [Triple]) -> Result<Vec<&'a Term>, AllocError>
     ensures terms { IfOk result (λ terms. map (λ term. term.now) terms.items
-        ≡ flat_map (λ triple. triple.subject ∷ triple.object ∷ []) triples.now) }
+        ≡ map (λ triple. triple.subject) triples.now ++ map (λ triple. triple.object) triples.now) }
     ensures kinds { IfOk result (λ _. All IsTriple triples.now) }
 {
     let mut terms = Vec::new(alloc);
     for triple in triples {
         terms.push(triple.subject())?;
+    }
+    for triple in triples {
         terms.push(triple.object())?;
     }
     Ok(terms)
@@ -82,44 +103,43 @@ fn ends<'a>(alloc: Global, triples: &'a [Triple]) -> Result<Vec<&'a Term>, Alloc
 fn relations<'a>(alloc: Global, triples: &'a [Triple]) -> Result<Vec<&'a Term>, AllocError>
     ensures { IfOk result (λ terms. map (λ term. term.now) terms.items ≡ map (λ triple. triple.predicate) triples.now) }
 {
-    let mut terms = Vec::new(alloc);
+    let mut terms = Vec::with_capacity(alloc, triples.len())?;
     for triple in triples {
         terms.push(triple.predicate())?;
     }
     Ok(terms)
 }
 
-/// The different terms, rising.
-fn distinct(mut terms: Vec<&Term>) -> Vec<&Term>
-    ensures { map (λ term. term.now) result.items ≡ members (from_list {R = term_cmp} (map (λ term. term.now) terms.entry.items)) }
-{
-    terms.sort_unstable();
-    terms.dedup();
-    terms
-}
-
-/// The terms that the chain lacks.
-fn lacking<'a>(
+/// What the chain has of each term.
+fn ask<'a>(
     alloc: Global,
     parent: Option<&Chain>,
     terms: &[&'a Term],
-) -> Result<Vec<&'a Term>, AllocError>
-    ensures { IfOk result (λ lacking. map (λ term. term.now) lacking.items
-        ≡ filter (is_new_to (parts_or_none (option_map (λ chain. chain.now) parent.entry))) (map (λ term. term.now) terms.now)) }
+) -> Result<Vec<Found<'a>>, AllocError>
+    ensures terms { IfOk result (λ found. map (λ one. one.term.now) found.items ≡ map (λ term. term.now) terms.now) }
+    ensures ids { IfOk result (λ found. All (λ one. IsIdOrNone (parts_or_none (option_map (λ chain. chain.now) parent.entry)) one.term.now one.id) found.items) }
 {
-    let mut lacking = Vec::new(alloc);
+    let mut found = Vec::with_capacity(alloc, terms.len())?;
     for term in terms {
-        if is_new(parent, term) {
-            lacking.push(*term)?;
-        }
+        found.push(Found {
+            term: *term,
+            id: known(parent, term),
+        })?;
     }
-    Ok(lacking)
+    Ok(found)
 }
 
-fn is_new(parent: Option<&Chain>, term: &Term) -> bool
-    ensures { result ≡ is_new_to (parts_or_none (option_map (λ chain. chain.now) parent.entry)) term.now }
+/// The terms that the chain lacks.
+pub(crate) fn lacking<'a>(alloc: Global, found: &[Found<'a>]) -> Result<Vec<&'a Term>, AllocError>
+    ensures { IfOk result (λ terms. map (λ term. term.now) terms.items ≡ lacked found.now) }
 {
-    known(parent, term).is_none()
+    let mut terms = Vec::new(alloc);
+    for one in found {
+        if one.id.is_none() {
+            terms.push(one.term)?;
+        }
+    }
+    Ok(terms)
 }
 
 /// Those of one kind.

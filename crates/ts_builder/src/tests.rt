@@ -1,8 +1,8 @@
 //! Layers built one on another, and their listings by number and text.
 
-ghost use Rattle.std.specs.Prelude.{◌≤◌, IsTrue, map};
+ghost use Rattle.std.specs.Prelude.{◌≤◌, IsTrue};
 ghost use Rattle.std.specs.Option.{option_map};
-ghost use Rattle.ts_chain.specs.Chain.{AreLinked, GoesOnFrom, parts_or_none};
+ghost use Rattle.ts_chain.specs.Chain.{parts_or_none};
 ghost use Rattle.ts_builder.specs.Change.{IsNumberOver};
 
 use crate::{Net, build, net_change};
@@ -71,34 +71,10 @@ fn chain_of(alloc: Global, files: &[Vec<u8>]) -> Result<Option<Chain>, Fail> {
     for file in files.iter().rev() {
         parts.push(Rc::new(alloc, loaded(alloc, file)?)?)?;
     }
-    if !are_linked(&parts) {
+    if !Chain::are_linked(&parts) {
         return Err("parts that don't go on from one another".into());
     }
     Ok(Some(Chain::of_parts(alloc, parts)?))
-}
-
-/// Whether parts go on from one another, newest first.
-fn are_linked(parts: &[Rc<Part>]) -> bool
-    ensures { IsTrue result → AreLinked (map (λ part. part.value.facts) parts.now) }
-{
-    if parts.is_empty() {
-        return false;
-    }
-    for i in 1..parts.len() {
-        if !goes_on(&parts[i - 1], &parts[i]) {
-            return false;
-        }
-    }
-    parts[parts.len() - 1].header().parent == None
-}
-
-fn goes_on(part: &Part, next: &Part) -> bool
-    ensures { IsTrue result → GoesOnFrom part.now.facts next.now.facts }
-{
-    let (above, below) = (part.header(), next.header());
-    above.parent == Some(below.number)
-        && above.terms_before == below.terms_before + below.nodes + below.values
-        && above.predicates_before == below.predicates_before + below.predicates
 }
 
 /// Whether a layer over the chain may have the number.

@@ -1,7 +1,7 @@
 use Rattle.std.specs.Option.{option_map}
 use Rattle.ts_model.specs.declared.signed.Sign.TheVariants.{Add, Remove}
 use Rattle.ts_chain.specs.Chain.{parts_or_none}
-use Rattle.ts_builder.proofs.NetLemmas.{IsPicked, net_changes, net_is, net_rises, net_stands, picked_by}
+use Rattle.ts_builder.proofs.NetLemmas.{IsPicked, net_changes, net_is, net_kinds, net_rises, net_stands, picked_by}
 use Rattle.ts_builder.proofs.net.net_change.Goals as goal
 
 added_picked : (c : goal.After-drop-lines-2) → IsPicked Add (parts_or_none (option_map (λ chain. chain.now) c.args.parent)) c.args.body.now c.in_ok-additions.additions.items
@@ -22,6 +22,12 @@ returns-clause-change c = net_changes _ _ _ _ (added_picked c) (removed_picked c
 
 pub returns-clause-at : goal.returns-clause-at
 returns-clause-at c = net_stands _ _ _ _ (added_picked c) (removed_picked c)
+
+pub returns-clause-added : goal.returns-clause-added
+returns-clause-added c = net_kinds _ _ _ _ (added_picked c)
+
+pub returns-clause-removed : goal.returns-clause-removed
+returns-clause-removed c = net_kinds _ _ _ _ (removed_picked c)
 
 pub invariant_of-result : goal.invariant_of-result
 invariant_of-result c =

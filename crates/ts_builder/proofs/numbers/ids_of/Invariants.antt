@@ -1,13 +1,10 @@
-use Rattle.std.proofs.Common.{All, take}
-use Rattle.std.specs.List.{AllZip}
-use Rattle.std.specs.Option.{option_map}
-use Rattle.ts_model.specs.TextTriple.{IsTriple}
-use Rattle.ts_chain.specs.Chain.{parts_or_none}
-use Rattle.ts_builder.specs.Numbering.{AreNumbersBy}
+use Rattle.std.proofs.Common.{◌≡◌, ℕ, ◌<◌, get_or, length}
+use Rattle.ts_plane.specs.declared.triple.IdTriple.{IdTriple}
+use Rattle.ts_builder.proofs.NumberLemmas.{id_of}
 use Rattle.ts_builder.proofs.numbers.ids_of.Given as goal
 
-abbrev pub invariant-loop-triple : goal.invariant-loop-triple
-invariant-loop-triple l = record {
-  numbers : AllZip (AreNumbersBy (parts_or_none (option_map (λ chain. chain.now) l.parent)) l.new) (take l.triple-index l.triples) l.ids.items;
-  kinds : All IsTriple (take l.triple-index l.triples);
+abbrev pub invariant-loop-i : goal.invariant-loop-i
+invariant-loop-i l = record {
+  many : length l.ids.items ≡ l.i;
+  each : (k : ℕ) (t : IdTriple) → k < l.i → get_or l.ids.items k t ≡ id_of l.ends l.relations l.count k;
 }
