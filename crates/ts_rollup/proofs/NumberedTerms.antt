@@ -1,11 +1,10 @@
 -- Terms that bear the numbers between two totals are the new ones of a layer.
-use Rattle.std.proofs.Common.{◌≡◌, ℕ, zero, suc, ◌+◌, ◌-◌, ◌<◌, ◌≤◌, true, List, [], ◌∷◌, map, length, get_or, Contains, Option, Some, None, IsTrue, refl, sym, ap, ◌∙◌, subst, arith}
+use Rattle.std.proofs.Common.{◌≡◌, ℕ, zero, suc, ◌+◌, ◌-◌, ◌<◌, true, List, [], ◌∷◌, map, length, Contains, Option, Some, refl, sym, ap, ◌∙◌, arith}
 use Rattle.std.specs.Prelude.{slice_get}
-use Rattle.std.proofs.lemmas.Option.{slice_get-get_or}
-use Rattle.std.proofs.lemmas.List.Elements.{at_from_Contains}
+use Rattle.std.proofs.lemmas.Option.{slice_get-get_or, slice_get_within}
 use Rattle.ts_model.specs.declared.term.TermKind.{TermKind}
 use Rattle.ts_model.specs.TextTerm.{TextTerm}
-use Rattle.ts_model.specs.Order.{term_cmp, term_cmp_total, term_cmp-IsAntisymmetric}
+use Rattle.ts_model.specs.Order.{term_cmp, term_cmp_total}
 use Rattle.ts_model.specs.Sets.{contains, size}
 use Rattle.ts_model.specs.History.{History, IsWellKept}
 use Rattle.ts_part.specs.Numbers.{IsTermAt, numbered_with, number_of}
@@ -16,11 +15,6 @@ use Rattle.ts_part.proofs.NewTerms.{is_in}
 use Rattle.ts_part.proofs.Places.{number-once, number-within}
 use Rattle.ts_part.proofs.Ranks.{among_at}
 use Rattle.ts_rollup.specs.Rolled.{AreNumbered}
-
-pub get_below : {X : Type 0} (xs : List X) (i : ℕ) (x : X) → slice_get xs i ≡ Some x → i < length xs
-get_below [] i x e = let none : ⊥ = cc in absurd none
-get_below (y ∷ ys) zero x e = omega arith
-get_below (y ∷ ys) (suc i) x e = let below : i < length ys = get_below ys i x e in omega arith
 
 -- there is an element at each place within
 pub got : {X : Type 0} (xs : List X) (i : ℕ) → i < length xs → (x : X) × (slice_get xs i ≡ Some x)
@@ -61,7 +55,7 @@ module _ (history : History) (kept : IsWellKept history) (from : Option ℕ) (k 
     low_with id term is = low_is ∙ ap size (sym (is.together from))
 
     place_at : (i : ℕ) (term : TextTerm) → slice_get terms i ≡ Some term → (place : ℕ) × (slice_get places i ≡ Some place)
-    place_at i term here = let below : i < length terms = get_below terms i term here in let long = numbered.placed in got places i (omega arith)
+    place_at i term here = let below : i < length terms = slice_get_within terms i term here in let long = numbered.placed in got places i (omega arith)
 
     -- each entry is a new term
     pub entry_new : (i : ℕ) (term : TextTerm) → slice_get terms i ≡ Some term → IsNewTerm history from k term
@@ -89,7 +83,7 @@ module _ (history : History) (kept : IsWellKept history) (from : Option ℕ) (k 
         let many = numbered.as_many in
         let place : ℕ = number_of history k term - low - 1 in
         let there = get_of places place (numbered.each place (omega arith)) in
-        let below : there.0 < length places = get_below places there.0 place there.1 in
+        let below : there.0 < length places = slice_get_within places there.0 place there.1 in
         let long = numbered.placed in
         let other = got terms there.0 (omega arith) in
         let is = is_named there.0 place other.0 there.1 other.1 in

@@ -6,16 +6,16 @@ use Rattle.std.specs.Cmp.{nat_cmp_total}
 use Rattle.std.specs.Ordering.{nat_cmp}
 use Rattle.std.specs.List.{range_with_len}
 use Rattle.std.specs.List.Sorted.{IsStrictlySortedBy}
-use Rattle.std.specs.Option.{option_map}
+use Rattle.std.specs.Option.{option_map, unwrap_or}
 use Rattle.std.proofs.lemmas.Option.{slice_get-map}
 use Rattle.std.proofs.lemmas.List.{length-map}
-use Rattle.std.proofs.lemmas.List.Elements.{All-contains}
 use Rattle.std.proofs.lemmas.List.FromFn.{get_or-map-range_with_len, length-map-range_with_len, map-range_with_len_more}
 use Rattle.std.proofs.lemmas.Map.Keys.{sorted_from_all_adjacent}
 use Rattle.ts_model.specs.TextTerm.{TextTerm}
 use Rattle.ts_chain.specs.Spelled.{AreNamed}
+use Rattle.ts_chain.proofs.Elements.{contains_at}
 use Rattle.ts_rollup.specs.Rolled.{AreNumbered, numbers_above}
-use Rattle.ts_rollup.proofs.NumberedTerms.{get_below, get_of}
+use Rattle.ts_rollup.proofs.NumberedTerms.{get_of}
 
 pub one_more : (low id : ℕ) → low ≤ id → numbers_above low id ++ (id + 1) ∷ [] ≡ numbers_above low (id + 1)
 one_more low id above =
@@ -26,18 +26,6 @@ same_default : (xs : List ℕ) (k d e : ℕ) → k < length xs → get_or xs k e
 same_default [] k d e within = absurd (omega arith)
 same_default (x ∷ xs) zero d e within = refl
 same_default (x ∷ xs) (suc k) d e within = same_default xs k d e (omega arith)
-
-some_is : (x y : ℕ) → Some x ≡ Some y → x ≡ y
-some_is x y e = ap from e
-  where
-    from : Option ℕ → ℕ
-    from None = x
-    from (Some z) = z
-
-contains_at : (xs : List ℕ) (i x : ℕ) → slice_get xs i ≡ Some x → Contains xs x
-contains_at [] i x e = let none : ⊥ = cc in absurd none
-contains_at (y ∷ ys) zero x e = (0, omega arith, some_is y x e)
-contains_at (y ∷ ys) (suc i) x e = let there = contains_at ys i x e in (suc there.0, omega (arith, there.1), there.2)
 
 less : (a b : ℕ) → a < b → nat_cmp a b ≡ Less
 less a b h = grind (arith)
@@ -113,7 +101,7 @@ module _ (low high : ℕ) where
             by : (o : Option ℕ) → slice_get ids entry ≡ o → Names (low + 1 + place) term
             by None e = let lost : None ≡ Some place = ap (option_map place_of) (sym e) ∙ mapped in let none : ⊥ = cc in absurd none
             by (Some id) e =
-                let place_is : place_of id ≡ place = some_is (place_of id) place (ap (option_map place_of) (sym e) ∙ mapped) in
+                let place_is : place_of id ≡ place = ap (λ o. unwrap_or o place) (ap (option_map place_of) (sym e) ∙ mapped) in
                 let beyond = (within_above id ((same id).0 (contains_at ids entry id e))).0 in
                 let number : id ≡ low + 1 + place = omega arith in
                 subst (λ n. Names n term) number (named entry id term e here)

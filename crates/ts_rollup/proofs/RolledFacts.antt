@@ -1,11 +1,10 @@
 -- What two chains tell makes up the facts of a rollup.
-use Rattle.std.proofs.Common.{◌≡◌, ℕ, zero, suc, ◌+◌, ◌-◌, ◌<◌, ◌≤◌, ◌⊎◌, inl, inr, Bool, true, false, not, ◌&&◌, ◌||◌, List, [], ◌∷◌, ◌++◌, filter, map, length, All, Option, Some, None, IfSome, IsTrue, refl, sym, ap, ◌∙◌, subst, true≢false, arith}
+use Rattle.std.proofs.Common.{◌≡◌, ℕ, zero, suc, ◌+◌, ◌⊎◌, inl, inr, true, not, List, [], ◌∷◌, ◌++◌, filter, map, length, Option, Some, None, IfSome, refl, sym, ap, ◌∙◌, true≢false, arith}
 use Rattle.std.specs.Prelude.{slice_get, ◌≢◌}
 use Rattle.std.specs.Option.{unwrap_or}
-use Rattle.std.specs.List.{list_any}
 use Rattle.std.specs.Ordering.{eq_by_cmp}
 use Rattle.std.specs.FinMap.{empty}
-use Rattle.std.proofs.lemmas.Bool.{or_cases, or_left}
+use Rattle.std.proofs.lemmas.Bool.{or_cases}
 use Rattle.std.proofs.lemmas.List.Elements.{All-contains}
 use Rattle.std.proofs.lemmas.List.Folds.{list_any-append}
 use Rattle.std.proofs.lemmas.Map.Views.{Contains-from_any}
@@ -13,17 +12,12 @@ use Rattle.std.specs.Cmp.{Equal-is}
 use Rattle.ts_model.specs.declared.term.TermKind.{TermKind}
 use Rattle.ts_model.specs.declared.term.TermKind.TheVariants.{Node, Predicate, Value}
 use Rattle.ts_model.specs.TextTerm.{TextTerm}
-use Rattle.ts_model.specs.TextTriple.{TextTriple}
 use Rattle.ts_model.specs.Order.{term_cmp, term_cmp_total, term_cmp-IsAntisymmetric, triple_cmp as text_cmp}
-use Rattle.ts_model.specs.Sets.{contains, size, difference, retain}
+use Rattle.ts_model.specs.Sets.{size}
 use Rattle.ts_model.proofs.SetAlgebra.{contains-empty}
-use Rattle.ts_model.proofs.SetLaws.{IsStrictlySortedBy-members, contains-members, contains-retain}
 use Rattle.ts_model.specs.History.{History, IsProperAncestor, IsWellKept, content_at, content_at_parent}
-use Rattle.ts_plane.specs.declared.triple.IdTriple.{IdTriple}
-use Rattle.ts_plane.specs.Triple.{IsRising, triple_cmp as id_cmp}
-use Rattle.ts_part.specs.declared.header.PartKind.TheVariants.{Rollup}
 use Rattle.ts_part.specs.Facts.{Facts, entries_of}
-use Rattle.ts_part.specs.Numbers.{IsTermAt, id_triples, numbered_with, totals_at}
+use Rattle.ts_part.specs.Numbers.{id_triples, numbered_with, totals_at}
 use Rattle.ts_part.specs.Rules.{TermsRule}
 use Rattle.ts_part.specs.Step.{IsNewTerm, gained, lost, new_terms, number_after, rollup_facts}
 use Rattle.ts_part.proofs.Births.{IsOver, over_ancestor}
@@ -31,21 +25,21 @@ use Rattle.ts_part.proofs.IdOrder.{id_triples-plane}
 use Rattle.ts_part.proofs.NewNumbers.{over_from}
 use Rattle.ts_part.proofs.NewTerms.{is_in}
 use Rattle.ts_part.proofs.OrderStays.{nothing}
-use Rattle.ts_part.proofs.Ranks.{among_at, place_of}
+use Rattle.ts_part.proofs.Ranks.{place_of}
 use Rattle.ts_part.proofs.StepRules.{under}
 use Rattle.ts_part.proofs.TripleStays.{id_triples-stay}
 use Rattle.ts_part.proofs.TripleTerms.{content_terms}
 use Rattle.ts_chain.specs.Chain.{layer_of, predicates_in, terms_in}
-use Rattle.ts_chain.specs.Content.{coming_in, has, stands_in, triples_of}
+use Rattle.ts_chain.specs.Content.{has, triples_of}
 use Rattle.ts_chain.specs.Stands.{StandsFor, StandsForOption}
 use Rattle.ts_chain.specs.Views.{IsPredicateOf, IsTermOf, NamesPredicate, NamesTerm}
 use Rattle.ts_chain.proofs.NamesAtLayers.{names_predicate_at, names_term_at}
 use Rattle.ts_chain.proofs.NewLists.{terms_are_new}
 use Rattle.ts_chain.proofs.StepsContent.{here_before, here_now, stay, steps_content}
 use Rattle.ts_chain.proofs.StepsLink.{steps_total}
-use Rattle.ts_rollup.specs.Rolled.{AreNumbered, AreSpelled, IsRolled, more_than}
+use Rattle.ts_rollup.specs.Rolled.{AreSpelled, IsRolled}
 use Rattle.ts_rollup.specs.Upto.{StandForBoth}
-use Rattle.ts_rollup.proofs.NumberedTerms.{IsNamed, entry_new, get_below, new_entry, places_are}
+use Rattle.ts_rollup.proofs.NumberedTerms.{IsNamed, entry_new, new_entry, places_are}
 use Rattle.ts_rollup.proofs.TriplesApart.{ids_apart, same_triples}
 use Rattle.ts_rollup.proofs.WholeWalks.{none_rise, none_stands}
 

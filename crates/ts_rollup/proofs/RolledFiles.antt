@@ -1,8 +1,8 @@
 -- What the file of a rollup says, by what its facts are.
-use Rattle.std.proofs.Common.{◌≡◌, ℕ, ◌+◌, ◌<◌, List, Option, Some, None, IfSome, refl, sym, ap, ◌∙◌, subst, length, length-append, arith}
+use Rattle.std.proofs.Common.{◌≡◌, ℕ, List, Option, IfSome, refl, sym, ap, subst, length, length-append, arith}
 use Rattle.ts_model.specs.History.{History}
 use Rattle.ts_part.specs.declared.header.PartKind.TheVariants.{Rollup}
-use Rattle.ts_part.specs.Facts.{Facts, entries_of}
+use Rattle.ts_part.specs.Facts.{Facts}
 use Rattle.ts_part.specs.Header.{HasHeader, header_of}
 use Rattle.ts_part.specs.Numbers.{TotalsFit}
 use Rattle.ts_part.specs.Part.{PartSays}

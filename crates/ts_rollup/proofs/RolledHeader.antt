@@ -1,10 +1,8 @@
 -- The header of a rollup's file.
-use Rattle.std.proofs.Common.{◌≡◌, ℕ, ◌+◌, ◌<◌, ◌≤◌, List, [], ◌∷◌, ◌++◌, length, Option, Some, None, IfSome, refl, sym, ap, ◌∙◌, subst, arith, length-append}
+use Rattle.std.proofs.Common.{◌≡◌, ◌+◌, ◌<◌, ◌≤◌, List, [], ◌∷◌, length, Option, Some, None, IfSome, refl, sym, ap, ◌∙◌, subst, arith, length-append}
 use Rattle.std.specs.Option.{option_map, unwrap_or}
 use Rattle.ts_model.specs.Limits.{number_limit}
-use Rattle.ts_plane.specs.declared.triple.IdTriple.{IdTriple}
-use Rattle.ts_part.specs.declared.header.PartKind.TheVariants.{Rollup}
-use Rattle.ts_part.specs.Facts.{Facts, all_predicates, all_terms, entries_of}
+use Rattle.ts_part.specs.Facts.{Facts, entries_of}
 use Rattle.ts_part.specs.Header.{KeepsHeaderRules, header_of}
 use Rattle.ts_part.specs.Rules.{KeepsRules}
 use Rattle.ts_chain.specs.Chain.{IsChain, layer_of, parts_or_none, predicates_in, terms_in}

@@ -1,5 +1,5 @@
 -- The facts of a rollup, by what the two chains tell.
-use Rattle.std.specs.Prelude.{◌≡◌, ℕ, ◌+◌, ◌-◌, ◌<◌, not, List, ◌++◌, length, slice_get, filter, map, Contains, Some}
+use Rattle.std.specs.Prelude.{◌≡◌, ℕ, ◌+◌, ◌-◌, ◌<◌, not, List, length, slice_get, filter, map, Contains, Some}
 use Rattle.std.specs.List.{range_with_len}
 use Rattle.ts_model.specs.declared.term.TermKind.TheVariants.{Node, Predicate, Value}
 use Rattle.ts_model.specs.TextTerm.{TextTerm}

@@ -1,5 +1,5 @@
 -- A walk whose next triple was taken already.
-use Rattle.std.specs.Prelude.{◌≡◌, Bool, not, List, [], ◌++◌, filter, Option, None}
+use Rattle.std.specs.Prelude.{◌≡◌, not, List, [], ◌++◌, filter, Option, None}
 use Rattle.std.specs.Option.{option_to_list}
 use Rattle.std.specs.Ordering.{is_lt}
 use Rattle.ts_plane.specs.declared.triple.IdTriple.{IdTriple}

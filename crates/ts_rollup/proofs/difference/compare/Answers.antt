@@ -1,5 +1,4 @@
-use Rattle.std.proofs.Common.{◌≡◌, List, true, false, true≢false, sym, ◌∙◌, subst}
-use Rattle.ts_plane.specs.declared.triple.IdTriple.{IdTriple}
+use Rattle.std.proofs.Common.{true≢false, sym, ◌∙◌, subst}
 use Rattle.ts_rollup.proofs.SideBySide.{IsComparing, compares_shared, compares_own, compared}
 use Rattle.ts_rollup.proofs.difference.compare.Goals as goal
 

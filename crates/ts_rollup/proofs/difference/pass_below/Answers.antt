@@ -1,6 +1,4 @@
-use Rattle.std.proofs.Common.{◌≡◌, List, Option, true, false, is_lt, sym, ap, ◌∙◌, subst}
-use Rattle.ts_plane.specs.declared.triple.IdTriple.{IdTriple}
-use Rattle.ts_plane.specs.Triple.{triple_cmp}
+use Rattle.std.proofs.Common.{is_lt, sym, ap, ◌∙◌, subst}
 use Rattle.ts_rollup.specs.Waiting.{waiting}
 use Rattle.ts_rollup.proofs.SideBySide.{IsPassing, passes, passed_all}
 use Rattle.ts_rollup.proofs.difference.pass_below.Goals as goal

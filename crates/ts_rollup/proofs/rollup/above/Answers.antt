@@ -1,4 +1,4 @@
-use Rattle.std.proofs.Common.{◌≡◌, ◌++◌, ◌∷◌, [], ◌+◌, ◌≤◌, ap, ◌∙◌, arith}
+use Rattle.std.proofs.Common.{◌≡◌, ◌++◌, ◌∷◌, [], ◌+◌, ap, ◌∙◌, arith}
 use Rattle.ts_rollup.specs.Rolled.{numbers_above}
 use Rattle.ts_rollup.proofs.NumbersAbove.{one_more}
 use Rattle.ts_rollup.proofs.rollup.above.Goals as goal

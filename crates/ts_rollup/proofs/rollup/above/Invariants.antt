@@ -1,4 +1,4 @@
-use Rattle.std.proofs.Common.{◌≡◌, ◌-◌, ◌≤◌}
+use Rattle.std.proofs.Common.{◌≡◌, ◌≤◌}
 use Rattle.ts_rollup.specs.Rolled.{numbers_above}
 use Rattle.ts_rollup.proofs.rollup.above.Given as goal
 

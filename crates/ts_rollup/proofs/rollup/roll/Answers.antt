@@ -1,13 +1,9 @@
-use Rattle.std.proofs.Common.{length, IfOk}
-use Rattle.std.specs.Option.{IfSome}
+use Rattle.std.proofs.Common.{length}
 use Rattle.std.proofs.lemmas.Result.{IfOk-weaker}
-use Rattle.ts_part.specs.declared.header.PartKind.TheVariants.{Rollup}
 use Rattle.ts_part.specs.Header.{HasHeader, header_of}
 use Rattle.ts_part.specs.Part.{PartSays}
 use Rattle.ts_part.specs.Rules.{KeepsRules}
 use Rattle.ts_part.specs.Step.{RollupSays}
-use Rattle.ts_chain.specs.Begins.{BeginsOver}
-use Rattle.ts_chain.specs.Chain.{layer_of, parts_or_none}
 use Rattle.ts_rollup.specs.Upto.{HasTotals}
 use Rattle.ts_rollup.proofs.RolledFiles.{begins, totals, says}
 use Rattle.ts_rollup.proofs.rollup.roll.Goals as goal

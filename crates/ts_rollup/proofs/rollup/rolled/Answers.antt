@@ -1,4 +1,4 @@
-use Rattle.std.proofs.Common.{◌≡◌, ◌<◌, ◌≤◌, ◌+◌, ◌-◌, ◌++◌, List, All, Contains, length, map, refl, subst, sym, ap, ◌∙◌, arith, length-append}
+use Rattle.std.proofs.Common.{◌<◌, ◌-◌, ◌++◌, All, Contains, length, map, refl, subst, sym, ap, ◌∙◌, arith, length-append}
 use Rattle.std.specs.Ordering.{nat_cmp}
 use Rattle.std.specs.List.Sorted.{IsStrictlySortedBy}
 use Rattle.std.specs.Option.{option_map}
@@ -6,7 +6,6 @@ use Rattle.ts_part.specs.declared.header.PartKind.TheVariants.{Rollup}
 use Rattle.ts_part.specs.Facts.{Facts}
 use Rattle.ts_chain.specs.Chain.{parts_or_none, predicates_in, terms_in}
 use Rattle.ts_chain.specs.Views.{IsPredicateId, IsTermId, NamesPredicate, NamesTerm}
-use Rattle.ts_rollup.specs.Rolled.{numbers_above}
 use Rattle.ts_rollup.proofs.NumbersAbove.{above_rise, all_above, ids_above, numbered_as}
 use Rattle.ts_rollup.proofs.RolledHeader.{lower_is, rolled_header}
 use Rattle.ts_rollup.proofs.rollup.rolled.Goals as goal
