@@ -1,7 +1,7 @@
 //! A worked history, and how it is played.
 
 use crate::agree::{agrees, all_of, parts_of};
-use crate::store::Store;
+use crate::store::{Store, base_chain, base_of};
 use std::alloc::Global;
 use std::test::Fail;
 
@@ -21,7 +21,7 @@ pub(crate) struct RollupRow<'a> {
     pub(crate) parts: &'a str,
 }
 
-/// Layers, then rollups one after another. The squash of the last layer lists its triples by their spellings.
+/// Layers, then rollups one after another. The squash of the last layer is the base of its triples, and lists them by their spellings.
 #[derive(Clone, Copy)]
 pub(crate) struct History<'a> {
     /// What it shows.
@@ -82,11 +82,18 @@ fn tells(alloc: Global, store: &Store, history: &History<'_>, parts: &str) -> Re
         }
     }
     let chain = store.chain(alloc, store.last())?.ok_or("no layer")?;
-    let squashed = store.squashed(alloc, store.last())?;
     Ok(
         parts_of(alloc, &chain)?.as_slice() == parts.as_bytes()
-            && all_of(alloc, &squashed)?.as_slice() == history.squashed.as_bytes(),
+            && squashes_to(alloc, store, history.squashed)?,
     )
+}
+
+/// Whether the last layer is squashed to the base of these lines, to the byte, and it lists them.
+fn squashes_to(alloc: Global, store: &Store, lines: &str) -> Result<bool, Fail> {
+    let file = store.squashed(alloc, store.last())?;
+    let base = base_of(alloc, lines, store.last().saturating_add(1))?;
+    let chain = base_chain(alloc, &file)?;
+    Ok(file == base && all_of(alloc, &chain)?.as_slice() == lines.as_bytes())
 }
 
 /// The files of a history.

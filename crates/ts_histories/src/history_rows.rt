@@ -112,6 +112,45 @@ const HISTORIES: &[History<'static>] = &[
         squashed: "<x> <p> <o> .\n<y> <p> <o> .\n<z> <p> <o> .\n",
     },
     History {
+        name: "a squash has neither terms of no triple nor the order of births, over a rollup",
+        layers: &[
+            LayerRow {
+                body: "<z> <p> <o> .\n",
+                net: "+ <z> <p> <o> .\n",
+                listing: "<z> <p> <o> .\n",
+            },
+            LayerRow {
+                body: "<y> <p> <o> .\n<i> <p> <o> .\n",
+                net: "+ <i> <p> <o> .\n+ <y> <p> <o> .\n",
+                listing: "<z> <p> <o> .\n<i> <p> <o> .\n<y> <p> <o> .\n",
+            },
+            LayerRow {
+                body: "- <i> <p> <o> .\n",
+                net: "- <i> <p> <o> .\n",
+                listing: "<z> <p> <o> .\n<y> <p> <o> .\n",
+            },
+            LayerRow {
+                body: "- <z> <p> <o> .\n+ <a> <p> <z> .\n+ <x> <q> \"v\" .\n",
+                net: "+ <a> <p> <z> .\n+ <x> <q> \"v\" .\n- <z> <p> <o> .\n",
+                listing: "<y> <p> <o> .\n<a> <p> <z> .\n<x> <q> \"v\" .\n",
+            },
+        ],
+        parts: "layer 00000004\nlayer 00000003\nlayer 00000002\nlayer 00000001\n",
+        rollups: &[
+            RollupRow {
+                number: 3,
+                upto: 0,
+                parts: "layer 00000004\nrollup 00000003 upto none\n",
+            },
+            RollupRow {
+                number: 4,
+                upto: 3,
+                parts: "rollup 00000004 upto 00000003\nrollup 00000003 upto none\n",
+            },
+        ],
+        squashed: "<a> <p> <z> .\n<x> <q> \"v\" .\n<y> <p> <o> .\n",
+    },
+    History {
         name: "a node comes before a value of its spelling",
         layers: &[LayerRow {
             body: "<q> <q> \"<q>\" .\n<q> <q> <q> .\n",
@@ -165,6 +204,17 @@ const HISTORIES: &[History<'static>] = &[
         parts: "layer 00000001\n",
         rollups: &[],
         squashed: "<n1> <p> <o> .\n<n2> <p> <o> .\n<n3> <p> <o> .\n<n4> <p> <o> .\n<n5> <p> <o> .\n<n6> <p> <o> .\n<n7> <p> <o> .\n<n8> <p> <o> .\n<n9> <p> <o> .\n",
+    },
+    History {
+        name: "ten terms begin with more bytes alike than the others share with them",
+        layers: &[LayerRow {
+            body: "<http://example.org/9> <p> <o> .\n<http://example.org/8> <p> <o> .\n<http://example.org/7> <p> <o> .\n<http://example.org/6> <p> <o> .\n<http://example.org/5> <p> <o> .\n<http://example.org/4> <p> <o> .\n<http://example.org/3> <p> <o> .\n<http://example.org/2> <p> <o> .\n<http://example.org/1> <p> <o> .\n<http://example.org/0> <p> <o> .\n<b> <p> <o> .\n",
+            net: "+ <b> <p> <o> .\n+ <http://example.org/0> <p> <o> .\n+ <http://example.org/1> <p> <o> .\n+ <http://example.org/2> <p> <o> .\n+ <http://example.org/3> <p> <o> .\n+ <http://example.org/4> <p> <o> .\n+ <http://example.org/5> <p> <o> .\n+ <http://example.org/6> <p> <o> .\n+ <http://example.org/7> <p> <o> .\n+ <http://example.org/8> <p> <o> .\n+ <http://example.org/9> <p> <o> .\n",
+            listing: "<b> <p> <o> .\n<http://example.org/0> <p> <o> .\n<http://example.org/1> <p> <o> .\n<http://example.org/2> <p> <o> .\n<http://example.org/3> <p> <o> .\n<http://example.org/4> <p> <o> .\n<http://example.org/5> <p> <o> .\n<http://example.org/6> <p> <o> .\n<http://example.org/7> <p> <o> .\n<http://example.org/8> <p> <o> .\n<http://example.org/9> <p> <o> .\n",
+        }],
+        parts: "layer 00000001\n",
+        rollups: &[],
+        squashed: "<b> <p> <o> .\n<http://example.org/0> <p> <o> .\n<http://example.org/1> <p> <o> .\n<http://example.org/2> <p> <o> .\n<http://example.org/3> <p> <o> .\n<http://example.org/4> <p> <o> .\n<http://example.org/5> <p> <o> .\n<http://example.org/6> <p> <o> .\n<http://example.org/7> <p> <o> .\n<http://example.org/8> <p> <o> .\n<http://example.org/9> <p> <o> .\n",
     },
     History {
         name: "what is there already, and what isn't there, changes nothing",

@@ -1,8 +1,8 @@
 //! The files of a history in memory: layers, and the rollups that stand in their place.
 
-ghost use Rattle.std.specs.Prelude.{◌≡◌, IsTrue, map};
+ghost use Rattle.std.specs.Prelude.{IsTrue};
 ghost use Rattle.std.specs.Option.{option_map};
-ghost use Rattle.ts_chain.specs.Chain.{AreLinked, GoesOnFrom, parts_or_none};
+ghost use Rattle.ts_chain.specs.Chain.{parts_or_none};
 ghost use Rattle.ts_builder.specs.Change.{IsNumberOver};
 ghost use Rattle.ts_rollup.specs.Upto.{AreBelow};
 
@@ -79,9 +79,11 @@ impl Store {
 
     /// Makes the layer of a body over the last one.
     pub(crate) fn commit(&mut self, alloc: Global, body: &str) -> Result<(), Fail> {
+        let number = self.last().saturating_add(1);
         let parent = self.chain(alloc, self.last())?;
         let body = body_of(alloc, body)?;
-        self.layers.push(made(alloc, parent.as_ref(), &body)?)?;
+        self.layers
+            .push(made(alloc, parent.as_ref(), number, &body)?)?;
         for line in body {
             self.named.push(line.triple)?;
         }
@@ -97,13 +99,10 @@ impl Store {
         Ok(())
     }
 
-    /// The chain of the base that a layer is squashed to.
-    pub(crate) fn squashed(&self, alloc: Global, number: u32) -> Result<Chain, Fail> {
+    /// The file of the base that a layer is squashed to.
+    pub(crate) fn squashed(&self, alloc: Global, number: u32) -> Result<Vec<u8>, Fail> {
         let chain = self.chain(alloc, number)?.ok_or("no layer")?;
-        let file = squash(alloc, &chain, number.saturating_add(1))?;
-        let mut parts = Vec::new(alloc);
-        parts.push(Rc::new(alloc, loaded(alloc, &file)?)?)?;
-        linked(alloc, parts)
+        Ok(squash(alloc, &chain, number.saturating_add(1))?)
     }
 
     /// The chain of a layer, and none of the number 0.
@@ -141,12 +140,25 @@ fn body_of(alloc: Global, text: &str) -> Result<Vec<SignedTriple>, Fail> {
     Ok(body)
 }
 
-/// The layer that a body makes over a chain, or over nothing.
-fn made(alloc: Global, parent: Option<&Chain>, body: &[SignedTriple]) -> Result<Layer, Fail> {
-    let number = match parent {
-        Some(chain) => chain.number().saturating_add(1),
-        None => 1,
-    };
+/// The file of the base of this number that a body makes.
+pub(crate) fn base_of(alloc: Global, body: &str, number: u32) -> Result<Vec<u8>, Fail> {
+    Ok(made(alloc, None, number, &body_of(alloc, body)?)?.file)
+}
+
+/// The chain of a base.
+pub(crate) fn base_chain(alloc: Global, file: &[u8]) -> Result<Chain, Fail> {
+    let mut parts = Vec::new(alloc);
+    parts.push(Rc::new(alloc, loaded(alloc, file)?)?)?;
+    linked(alloc, parts)
+}
+
+/// The layer of this number that a body makes over a chain, or over nothing.
+fn made(
+    alloc: Global,
+    parent: Option<&Chain>,
+    number: u32,
+    body: &[SignedTriple],
+) -> Result<Layer, Fail> {
     if !is_above(parent, number) {
         return Err("no number".into());
     }
@@ -205,29 +217,8 @@ fn loaded(alloc: Global, file: &[u8]) -> Result<Part, Fail> {
 
 /// The chain of these parts, newest first.
 fn linked(alloc: Global, parts: Vec<Rc<Part>>) -> Result<Chain, Fail> {
-    if !are_linked(&parts) {
+    if !Chain::are_linked(&parts) {
         return Err("parts that don't go on from one another".into());
     }
     Ok(Chain::of_parts(alloc, parts)?)
-}
-
-/// Whether each part goes on from the next, and the last from none.
-fn are_linked(parts: &[Rc<Part>]) -> bool
-    ensures { IsTrue result → AreLinked (map (λ part. part.value.facts) parts.now) }
-{
-    match parts {
-        [] => false,
-        [part] => part.header().parent.is_none(),
-        [part, rest @ ..] => goes_on(part, &rest[0]) && are_linked(rest),
-    }
-}
-
-fn goes_on(part: &Part, next: &Part) -> bool
-    ensures { IsTrue result → GoesOnFrom part.now.facts next.now.facts }
-{
-    let header = part.header();
-    let before = next.header();
-    header.parent == Some(before.number)
-        && header.terms_before == before.terms_before + before.nodes + before.values
-        && header.predicates_before == before.predicates_before + before.predicates
 }

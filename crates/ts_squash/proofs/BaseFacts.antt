@@ -1,5 +1,6 @@
 -- What is made of the triples of a layer are the facts of a base layer with them.
 use Rattle.std.proofs.Common.{◌≡◌, ◌⊎◌, inl, inr, ℕ, suc, ◌+◌, ◌<◌, ◌≤◌, true, false, ◌||◌, List, [], ◌∷◌, ◌++◌, map, length, length-append, slice_get, Option, None, Some, refl, sym, ap, ◌∙◌, subst, arith}
+use Rattle.std.specs.Cmp.{both_ways}
 use Rattle.std.specs.FinMap.{contains_key, empty}
 use Rattle.std.specs.List.{AllByRecursion}
 use Rattle.std.specs.List.Sorted.{IsPermutation, IsSorted, IsStrictlySortedBy}
@@ -44,7 +45,7 @@ use Rattle.ts_squash.specs.Squashed.{ends_of, relations_of, squashed}
 use Rattle.ts_squash.proofs.BaseTerms.{additions_are, base_kept, base_there, base_triple, new_here, old_triple, over, parent_is, removals_are}
 use Rattle.ts_squash.proofs.Entries.{entry_of, entry_there, new_is, predicate_user, predicate_uses, predicates_named, term_user, term_uses, terms_named}
 use Rattle.ts_squash.proofs.Moved.{sorted_same}
-use Rattle.ts_squash.proofs.TermLists.{kind_at, same_bool, same_list}
+use Rattle.ts_squash.proofs.TermLists.{kind_at, same_list}
 
 -- the terms of the numbers that the triples of a layer use
 pub record AreTermsOf (history : History) (k : ℕ) (parts : List Facts) (used ids : List ℕ) (nodes values : List TextTerm) : Type 0 where
@@ -94,7 +95,7 @@ module _ (history : History) (k n : ℕ) (positive : 1 ≤ n) (fits : n < number
       let kept = base_kept history stands.kept k n positive fits fresh in
       let above = over history stands.kept k n positive fits fresh in
       same_list kind terms (listed kind) rule (terms_keep base kept from n above kind) (λ term.
-      same_bool (is_in terms term) (is_in (listed kind) term)
+      both_ways (is_in terms term) (is_in (listed kind) term)
       (λ is.
       let place = place_of term_cmp term_cmp_total term_cmp-IsAntisymmetric terms term is in
       new_is_listed base kept from n above kind term (kind_at kind terms place.0 term rule place.1)

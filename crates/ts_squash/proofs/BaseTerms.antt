@@ -59,10 +59,10 @@ module _ (history : History) (kept : IsWellKept history) (k n : ℕ) (positive :
   pub removals_are : removals_at base n ≡ empty
   removals_are = ap (λ o. set_or_none (option_map (λ (layer : LayerRecord). layer.removals) o)) is_here
 
-  alone : chain_of base n ≡ n ∷ []
+  pub alone : chain_of base n ≡ n ∷ []
   alone = chain_of-parent base base_kept n layer is_here
 
-  content_is : content_at base n ≡ all
+  pub content_is : content_at base n ≡ all
   content_is = ap (content_of base) alone ∙ additions_are
 
   -- the base has its triples' terms

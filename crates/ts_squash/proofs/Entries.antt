@@ -23,13 +23,14 @@ use Rattle.ts_part.proofs.TripleTerms.{IsTripleAt}
 use Rattle.ts_chain.specs.Spelled.{AreNamed}
 use Rattle.ts_chain.specs.Stands.{StandsFor}
 use Rattle.ts_chain.specs.Views.{NamesPredicate, NamesTerm}
+use Rattle.ts_chain.proofs.Elements.{contains_at}
 use Rattle.ts_chain.proofs.NamesAtLayers.{names_predicate_at, names_term_at, node_or_value as no_predicate}
 use Rattle.ts_squash.specs.NewNumbers.{AreDifferent, AreSameNumbers, new_number}
 use Rattle.ts_squash.specs.Squashed.{ends_of, relations_of, squashed}
 use Rattle.ts_squash.proofs.BaseTerms.{base_kept, base_triple, old_triple, stands_in}
 use Rattle.ts_squash.proofs.Places.{distinct_order, new_at}
 use Rattle.ts_squash.proofs.SameNumbers.{moved_same}
-use Rattle.ts_squash.proofs.TermLists.{at_place, end_of, ends_has, has_at, node_or_value, relation_of, relations_have}
+use Rattle.ts_squash.proofs.TermLists.{at_place, end_of, ends_has, node_or_value, relation_of, relations_have}
 
 module _ (history : History) (kept : IsWellKept history) (k n : ℕ) (positive : 1 ≤ n) (fits : n < number_limit) (fresh : contains_key history n ≡ false) where
   abbrev base : History
@@ -62,7 +63,7 @@ module _ (history : History) (kept : IsWellKept history) (k n : ℕ) (positive :
         let id : ℕ = get_or ids p 0 in
         let id_at : slice_get ids p ≡ Some id = slice_get-get_or ids p 0 (omega (arith, as_many)) in
         let is = named p id term id_at at in
-        let found = user id (Contains-permutation ids used id (IsPermutation-sym used ids moved) (has_at ids p id id_at)) in
+        let found = user id (Contains-permutation ids used id (IsPermutation-sym used ids moved) (contains_at ids p id id_at)) in
         let one : found.0 ≡ term = number-once history kept k kind found.0 term found.1.was is.0 (found.1.number ∙ sym is.1) in
         subst (λ t. contains (numbered_with kind base (Some n)) t ≡ true) one found.1.there
 

@@ -1,4 +1,5 @@
 pub mod BaseTerms
+pub mod BaseTotals
 pub mod BaseFacts
 pub mod ChainNumbers
 pub mod Entries

@@ -7,7 +7,7 @@ use Rattle.std.proofs.lemmas.List.Edits.{length-remove}
 use Rattle.std.proofs.lemmas.List.Sorted.{Contains-permutation, IsPermutation-cons, IsPermutation-refl, IsPermutation-remove, IsPermutation-sym, IsPermutation-trans}
 use Rattle.std.proofs.lemmas.Map.Keys.{IsDistinct-from_sorted, IsDistinct-head, IsDistinct-tail}
 use Rattle.ts_part.proofs.Ranks.{each_at}
-use Rattle.ts_chain.proofs.NamesAtLayers.{contains_first, contains_rest}
+use Rattle.ts_chain.proofs.Elements.{contains_first, contains_rest}
 use Rattle.ts_squash.specs.NewNumbers.{AreSameNumbers}
 use Rattle.ts_squash.proofs.TermLists.{at_place, same, same_itself}
 

@@ -9,10 +9,8 @@
 #![tactic(auto)]
 
 mod base;
+mod law;
 mod renumber;
-#[cfg(test)]
-mod samples;
-#[cfg(test)]
-mod tests;
 
 pub use base::squash;
+pub use law::bases_are_kept;
