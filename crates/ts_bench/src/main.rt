@@ -1,16 +1,20 @@
 //! Times the lookups of the structures over bytes: `bits N`, `numbers N`, `texts N`, `sequence N`, `plane N`, `triples N`. It prints
 //! nanoseconds for each lookup, at places drawn at random. `iris N` and `text N` read lines, write the part file of their triples and
-//! load it. Any other words print what there is to time.
+//! load it. `chains N` times a base and N children, `base N` makes a base of new lines, and `lines N` prints these.
+//! Any other words print what there is to time.
 #![tactic(auto)]
 
+mod chains;
 mod draw;
 mod parts;
 mod planes;
+mod premises;
 
 ghost use Rattle.std.specs.Prelude.{◌≡◌, ◌≤◌, All, IfOk};
 ghost use Rattle.std.specs.Cmp.Lexicographic.{slice_cmp};
 ghost use Rattle.std.specs.Ordering.{is_lt, nat_cmp};
 
+use crate::chains::{print_lines, time_base, time_chains};
 use crate::draw::{LOOKUPS, draw, draw_below, tell};
 use crate::parts::{Lines, time_part};
 use crate::planes::{drawn_triples, spread_triples, time_plane};
@@ -32,6 +36,9 @@ enum Task {
     Plane(u64),
     Triples(u64),
     Part(Lines, u64),
+    Chains(u64),
+    Base(u64),
+    Print(u64),
     Nothing,
 }
 
@@ -44,9 +51,12 @@ fn main(rt: HostRuntime) -> anyhow::Result<()> {
         Task::Plane(count) => time_plane(&rt, rt.alloc(), &spread_triples(rt.alloc(), count)?),
         Task::Triples(count) => time_plane(&rt, rt.alloc(), &drawn_triples(rt.alloc(), count)?),
         Task::Part(lines, count) => time_part(&rt, lines, count),
+        Task::Chains(children) => time_chains(&rt, children),
+        Task::Base(count) => time_base(&rt, count),
+        Task::Print(count) => print_lines(&rt, count),
         Task::Nothing => {
             println!(rt;
-                "bits N, numbers N, texts N, sequence N, plane N, triples N, iris N, text N"
+                "bits N, numbers N, texts N, sequence N, plane N, triples N, iris N, text N, chains N, base N, lines N"
             )?;
             Ok(())
         }
@@ -71,6 +81,9 @@ fn read_task(rt: &(impl Env + AllocGlobal)) -> anyhow::Result<Task> {
         "triples" => Task::Triples(count),
         "iris" => Task::Part(Lines::Iris, count),
         "text" => Task::Part(Lines::Text, count),
+        "chains" => Task::Chains(count),
+        "base" => Task::Base(count),
+        "lines" => Task::Print(count),
         _ => Task::Nothing,
     })
 }

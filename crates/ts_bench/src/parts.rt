@@ -4,6 +4,7 @@ ghost use Rattle.std.specs.Prelude.{◌≡◌, IsTrue};
 ghost use Rattle.ts_part.specs.Header.{KeepsHeaderRules, header_of};
 
 use crate::draw::draw_below;
+use anyhow::bail;
 use std::alloc::{AllocError, Global};
 use std::fs;
 use std::rt::{Clock, Files};
@@ -81,7 +82,12 @@ fn append_iri(letter: &str, number: u64, line: &mut String) -> Result<(), AllocE
 }
 
 /// A line of one of `count` triples.
-fn line(alloc: Global, x: &mut u64, lines: Lines, count: u64) -> Result<String, AllocError> {
+pub(crate) fn line(
+    alloc: Global,
+    x: &mut u64,
+    lines: Lines,
+    count: u64,
+) -> Result<String, AllocError> {
     let mut line = String::new(alloc);
     let p = draw_below(x, PREDICATES);
     match lines {
@@ -107,7 +113,11 @@ fn line(alloc: Global, x: &mut u64, lines: Lines, count: u64) -> Result<String, 
 }
 
 /// Lines drawn at random.
-fn drawn_lines(alloc: Global, lines: Lines, count: u64) -> Result<Vec<String>, AllocError> {
+pub(crate) fn drawn_lines(
+    alloc: Global,
+    lines: Lines,
+    count: u64,
+) -> Result<Vec<String>, AllocError> {
     let mut drawn = Vec::new(alloc);
     let mut x = 1;
     for _ in 0..count {
@@ -117,7 +127,7 @@ fn drawn_lines(alloc: Global, lines: Lines, count: u64) -> Result<Vec<String>, A
 }
 
 /// The triples of lines.
-fn triples_of(alloc: Global, lines: &[String]) -> Result<Vec<SignedTriple>, LineError> {
+pub(crate) fn triples_of(alloc: Global, lines: &[String]) -> Result<Vec<SignedTriple>, LineError> {
     let mut triples = Vec::new(alloc);
     for line in lines {
         if let Some(triple) = read_line(alloc, line.as_bytes())? {
@@ -266,9 +276,9 @@ fn is_first_layer(facts: &PartFacts) -> bool
 
 /// What is told of a run: when it began, and how much memory the process had then, in kilobytes.
 #[derive(Clone, Copy)]
-struct Begun {
-    start: Instant,
-    kilobytes: u64,
+pub(crate) struct Begun {
+    pub(crate) start: Instant,
+    pub(crate) kilobytes: u64,
 }
 
 /// A number of kilobytes that the system tells of this process.
@@ -284,7 +294,7 @@ fn kilobytes(rt: &(impl Files + AllocGlobal), name: &str) -> anyhow::Result<u64>
 }
 
 /// Begins a run: the greatest memory of the process is counted anew.
-fn begin(rt: &(impl Clock + Files + AllocGlobal)) -> anyhow::Result<Begun> {
+pub(crate) fn begin(rt: &(impl Clock + Files + AllocGlobal)) -> anyhow::Result<Begun> {
     fs::write(rt, "/proc/self/clear_refs", "5")?;
     Ok(Begun {
         kilobytes: kilobytes(rt, "VmRSS:")?,
@@ -293,7 +303,7 @@ fn begin(rt: &(impl Clock + Files + AllocGlobal)) -> anyhow::Result<Begun> {
 }
 
 /// Prints how long a run took, for each triple too, and how much more memory the process had in it.
-fn tell(
+pub(crate) fn tell(
     rt: &(impl Print + Clock + Files + AllocGlobal),
     name: &str,
     begun: Begun,
@@ -305,6 +315,22 @@ fn tell(
     let nanos = took.as_nanos() / (count.max(1) as u128);
     println!(rt; "{name} {micros} us {nanos} ns a triple {more} KB")?;
     Ok(())
+}
+
+/// The part that a file is, by the header at its front.
+pub(crate) fn loaded(alloc: Global, file: Vec<u8>) -> anyhow::Result<Part> {
+    let mut bytes = [0; 88];
+    let Some(front) = file.get(..88) else {
+        bail!("no header");
+    };
+    bytes.copy_from_slice(front);
+    let Some(header) = header_of(&bytes) else {
+        bail!("no header");
+    };
+    match Part::load(alloc, file, &Expect { header }) {
+        Ok(part) => Ok(part),
+        Err(_) => bail!("not loaded"),
+    }
 }
 
 /// Loads a file, and tells how long it took.

@@ -61,14 +61,14 @@ fn joined(alloc: Global, sections: &[Vec<u8>; 8]) -> Result<File, AllocError> {
 
 /// Which parts the pattern of a walk binds.
 #[derive(Clone, Copy)]
-struct Bound {
+pub(crate) struct Bound {
     s: bool,
     p: bool,
     o: bool,
 }
 
 /// The walks that are timed, and what they are called.
-const WALKS: [(&str, Bound); 8] = [
+pub(crate) const WALKS: [(&str, Bound); 8] = [
     (
         "all",
         Bound {
@@ -189,7 +189,7 @@ fn part(number: u64, is_bound: bool) -> Option<u64> {
 }
 
 /// The pattern that has the bound parts of a triple.
-fn pattern_of(t: IdTriple, bound: Bound) -> IdPattern {
+pub(crate) fn pattern_of(t: IdTriple, bound: Bound) -> IdPattern {
     IdPattern {
         s: part(t.s, bound.s),
         p: part(t.p, bound.p),
