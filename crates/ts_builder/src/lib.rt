@@ -12,8 +12,6 @@ mod net;
 mod numbers;
 mod ranks;
 mod terms;
-#[cfg(test)]
-mod tests;
 
 pub use law::new_layers_are_counted;
 pub use layer::{BuildError, build};

@@ -217,6 +217,35 @@ const HISTORIES: &[History<'static>] = &[
         squashed: "<b> <p> <o> .\n<http://example.org/0> <p> <o> .\n<http://example.org/1> <p> <o> .\n<http://example.org/2> <p> <o> .\n<http://example.org/3> <p> <o> .\n<http://example.org/4> <p> <o> .\n<http://example.org/5> <p> <o> .\n<http://example.org/6> <p> <o> .\n<http://example.org/7> <p> <o> .\n<http://example.org/8> <p> <o> .\n<http://example.org/9> <p> <o> .\n",
     },
     History {
+        name: "the last line of a triple decides, and only what changes is kept",
+        layers: &[
+            LayerRow {
+                body: "<x> <p> <o> .\n<y> <p> <o> .\n",
+                net: "+ <x> <p> <o> .\n+ <y> <p> <o> .\n",
+                listing: "<x> <p> <o> .\n<y> <p> <o> .\n",
+            },
+            LayerRow {
+                body: "+ <x> <p> <o> .\n- <z> <p> <o> .\n- <y> <p> <o> .\n+ <n> <p> <o> .\n+ <m> <p> <o> .\n- <m> <p> <o> .\n",
+                net: "+ <n> <p> <o> .\n- <y> <p> <o> .\n",
+                listing: "<x> <p> <o> .\n<n> <p> <o> .\n",
+            },
+        ],
+        parts: "layer 00000002\nlayer 00000001\n",
+        rollups: &[],
+        squashed: "<n> <p> <o> .\n<x> <p> <o> .\n",
+    },
+    History {
+        name: "without a parent nothing goes",
+        layers: &[LayerRow {
+            body: "+ <x> <p> <o> .\n- <z> <p> <o> .\n- <y> <p> <o> .\n+ <n> <p> <o> .\n+ <m> <p> <o> .\n- <m> <p> <o> .\n",
+            net: "+ <n> <p> <o> .\n+ <x> <p> <o> .\n",
+            listing: "<n> <p> <o> .\n<x> <p> <o> .\n",
+        }],
+        parts: "layer 00000001\n",
+        rollups: &[],
+        squashed: "<n> <p> <o> .\n<x> <p> <o> .\n",
+    },
+    History {
         name: "what is there already, and what isn't there, changes nothing",
         layers: &[
             LayerRow {
