@@ -1,0 +1,4 @@
+pub mod Examples
+pub mod Pass
+pub mod Reached
+pub mod Search
