@@ -6,6 +6,7 @@ pub mod Characters
 pub mod TextTriple
 pub mod Fits
 pub mod History
+pub mod Integers
 pub mod Iri
 pub mod LayerText
 pub mod Limits
