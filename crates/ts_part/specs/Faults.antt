@@ -1,12 +1,10 @@
 -- The faults of the sections that are checked together: a dictionary's two, a plane's eight, a map.
-use Rattle.std.specs.Prelude.{◌≡◌, ℕ, ◌+◌, ◌-◌, ◌<◌, ◌⊎◌, Bool, List, length}
-use Rattle.ts_bits.specs.BitArray.{BitsSay}
+use Rattle.std.specs.Prelude.{◌≡◌, ℕ, ◌+◌, ◌-◌, ◌<◌, ◌⊎◌, List, length}
 use Rattle.ts_front.specs.Dictionary.{DictionarySays}
 use Rattle.ts_model.specs.declared.term.TermKind.{TermKind}
 use Rattle.ts_plane.specs.declared.error.OpenError.{OpenError}
 use Rattle.ts_plane.specs.declared.error.OpenError.TheVariants as planes
 use Rattle.ts_plane.specs.Parts.{PlaneParts}
-use Rattle.ts_plane.specs.Rules.{section}
 use Rattle.ts_plane.specs.Unmarked.{IsUnmarked}
 use Rattle.ts_part.specs.declared.damage.Damage.TheVariants as faults
 use Rattle.ts_part.specs.declared.damage.LoadError.{LoadError}
@@ -40,7 +38,7 @@ pub record HasEntries (count : ℕ) (starts bytes : List ℕ) : Type 0 where
 -- only a mark for each object tells which of two sections of a plane of so many triples is at fault
 pub record NeedsMarks (terms predicates count : ℕ) (sections : List (List ℕ)) (later : ℕ) : Type 0 where
   pub unmarked : IsUnmarked sections terms predicates later
-  pub counted : (ends : List Bool) → BitsSay (section sections 3) ends → length ends ≡ count
+  pub counted : length unmarked.parts.object_ends ≡ count
 
 abbrev pub IsPlaneError : ℕ → ℕ → ℕ → List (List ℕ) → OpenError → Type 0
 IsPlaneError terms predicates count sections (planes.Fault fault) = IsPlaneFault terms predicates count sections fault

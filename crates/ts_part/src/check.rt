@@ -95,7 +95,14 @@ fn fault_of_plane(
     ensures memory { IfErr result (λ error. (error ≡ LoadError.Memory)
         × (later : ℕ) × NeedsMarks terms predicates count (plane_from (sections_at s.now) first) later) }
 {
-    match plane_fault(alloc, s.file, &s.eight_from(first), terms, predicates, count) {
+    match plane_fault(
+        alloc,
+        s.file,
+        &s.eight_from(first),
+        terms,
+        predicates,
+        count,
+    ) {
         Ok(fault) => Ok(fault),
         Err(_) => Err(LoadError::Memory),
     }

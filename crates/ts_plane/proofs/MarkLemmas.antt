@@ -44,9 +44,9 @@ pub one_place : (xs : List ℕ) (i j : ℕ) → IsStrictlyIncreasing xs → i < 
 one_place xs i j rising low high same = elim (cases_lt i j) [
   | inl less ↦ (let up = rises xs 0 (length xs) i j (λ k l m. rising k m) (omega arith) less (omega arith) in absurd (omega (arith, up, same)))
   | inr not ↦ elim (cases_lt j i) [
-      | inl more ↦ (let up = rises xs 0 (length xs) j i (λ k l m. rising k m) (omega arith) more (omega arith) in absurd (omega (arith, up, same)))
-      | inr neither ↦ omega arith
-    ]
+    | inl more ↦ (let up = rises xs 0 (length xs) j i (λ k l m. rising k m) (omega arith) more (omega arith) in absurd (omega (arith, up, same)))
+    | inr neither ↦ omega arith
+  ]
 ]
 
 -- each number of the others is marked among rising ones, at its place
@@ -70,9 +70,9 @@ pub seen_more : (old new xs others : List ℕ) (i n : ℕ) → i < length xs →
     → ((k : ℕ) → k ≢ i → (IsMarked new k ↔ IsMarked old k)) → EachSeen old xs others n → EachSeen new xs others (n + 1)
 seen_more old new xs others i n within there here stay seen k low = elim (cases_lt k n) [
   | inl less ↦ (let at = seen k less in elim (cases_eq at.0 i) [
-      | inl same ↦ (at.0, at.1, at.2, subst (IsMarked new) (sym same) here)
-      | inr apart ↦ (at.0, at.1, at.2, (stay at.0 apart).1 at.3)
-    ])
+    | inl same ↦ (at.0, at.1, at.2, subst (IsMarked new) (sym same) here)
+    | inr apart ↦ (at.0, at.1, at.2, (stay at.0 apart).1 at.3)
+  ])
   | inr not ↦ (let e : n ≡ k = omega arith in (i, within, there ∙ ap (slice_index others) e, here))
 ]
 

@@ -17,7 +17,7 @@ use Rattle.ts_plane.specs.Parts.{PlaneParts}
 use Rattle.ts_plane.specs.Plane.{cut}
 use Rattle.ts_plane.specs.Rules.{section, IsBounded, RisesInRows, KeepsBefore, IsFirstFault}
 use Rattle.ts_plane.specs.Unmarked.{IsOpenError}
-use Rattle.ts_plane.proofs.FirstFaults.{KeepsFront, front_fault}
+use Rattle.ts_plane.proofs.FirstFaults.{KeepsFront, front_fault, front_keeps}
 
 -- a section is what lies at its place
 pub section_at : (file : List ℕ) (places : List (ℕ × ℕ)) (i : ℕ) (d : ℕ × ℕ) → i < length places
@@ -106,12 +106,10 @@ pub objects_error : (sections : List (List ℕ)) (terms predicates : ℕ) (parts
     → IsOpenError sections terms predicates error
 objects_error sections terms predicates parts (Fault i) front fault = objects_fault sections terms predicates parts i front fault
 objects_error sections terms predicates parts (Unmarked i) front needs = record {
-  ends = parts.object_ends;
-  rights = parts.pair_objects;
+  parts = parts;
+  before = front_keeps sections terms predicates parts 5 (omega arith) front;
   objects = needs.list;
-  ends_say = (front.object_ends (omega arith)).says;
-  rights_say = (front.pair_objects (omega arith)).says;
-  objects_say = needs.says;
+  say = needs.says;
   rising = needs.rising;
   found = needs.found;
   hidden = needs.hidden;

@@ -155,16 +155,28 @@ fn changed(file: &[u8; 232], changes: Changes) -> [u8; 232] {
 #[test]
 fn names_the_first_section_at_fault(rt: HostRuntime) {
     for (changes, fault) in TWO_FAULTS.iter() {
-        assert_eq!(rt; opened(rt.alloc(), &changed(&TWO, changes), 5, 1), Err(*fault));
+        assert_eq!(rt;
+            opened(rt.alloc(), &changed(&TWO, changes), 5, 1),
+            Err(*fault)
+        );
     }
     for (changes, fault) in SEVEN_FAULTS.iter() {
-        assert_eq!(rt; opened(rt.alloc(), &changed(&SEVEN, changes), 5, 3), Err(*fault));
+        assert_eq!(rt;
+            opened(rt.alloc(), &changed(&SEVEN, changes), 5, 3),
+            Err(*fault)
+        );
     }
 }
 
 #[test]
 fn names_the_fault_of_one_triple(rt: HostRuntime) {
     // Pair ends with a bit behind the last, and object 1 with a width of 2.
-    assert_eq!(rt; opened(rt.alloc(), &changed(&ONE, &[(39, 0x01)]), 2, 1), Err(1));
-    assert_eq!(rt; opened(rt.alloc(), &changed(&ONE, &[(144, 0x40)]), 2, 1), Err(4));
+    assert_eq!(rt;
+        opened(rt.alloc(), &changed(&ONE, &[(39, 0x01)]), 2, 1),
+        Err(1)
+    );
+    assert_eq!(rt;
+        opened(rt.alloc(), &changed(&ONE, &[(144, 0x40)]), 2, 1),
+        Err(4)
+    );
 }

@@ -7,7 +7,7 @@ use Rattle.ts_front.specs.Pieces.{pieces_of}
 use Rattle.ts_front.specs.Shared.{text_at}
 use Rattle.ts_front.proofs.IterLemmas.{length-pieces_of}
 use Rattle.ts_model.specs.Limits.{term_limit}
-use Rattle.ts_part.proofs.TermLemmas.{IsTermOf, all_terms, made_text, not_all, one_term, piece_turn, too_long}
+use Rattle.ts_part.proofs.TermLemmas.{IsTermOf, all_terms, err_since, made_text, not_all, one_term, piece_turn, too_long}
 use Rattle.ts_part.proofs.terms.are_terms.Goals as goal
 
 pub returns-then-piece-len-clause-terms : goal.returns-then-piece-len-clause-terms
@@ -72,3 +72,10 @@ returns-clause-terms c =
           (omega (arith, end.1, length-pieces_of c.args.texts.now)),
       λ _. refl,
     )
+
+pub returns-in_err-extend_from_slice-clause-memory : goal.returns-in_err-extend_from_slice-clause-memory
+returns-in_err-extend_from_slice-clause-memory c =
+    let road = YieldsList-from_first (λ (p : Piece). (p.shared, p.suffix.now)) (λ pieces. pieces) (pieces_of c.args.texts.now) cc in
+    let turn = YieldsList-turn road c.loop-piece.yielded _ c.loop-piece.yielded_by _ _ c.in-Some.piece c.in-Some.is c.next.ensures.steps in
+    let is = piece_turn c.args.texts.now (length c.loop-piece.yielded) c.in-Some.piece.shared c.in-Some.piece.suffix.now _ turn in
+    err_since c.from_residual.result (omega (arith, is.low))
