@@ -1,11 +1,13 @@
 //! Times the lookups of the structures over bytes: `bits N`, `numbers N`, `texts N`, `sequence N`, `plane N`, `triples N`. It prints
 //! nanoseconds for each lookup, at places drawn at random. `iris N` and `text N` read lines, write the part file of their triples and
-//! load it. `chains N` times a base and N children, `base N` makes a base of new lines, and `lines N` prints these.
+//! load it. `file N NAME` and `long N NAME` write such a file, the second of long names that share their fronts, and `load NAME` loads
+//! any bytes. `chains N` times a base and N children, `base N` makes a base of new lines, and `lines N` prints these.
 //! Any other words print what there is to time.
 #![tactic(auto)]
 
 mod chains;
 mod draw;
+mod files;
 mod parts;
 mod planes;
 mod premises;
@@ -16,6 +18,7 @@ ghost use Rattle.std.specs.Ordering.{is_lt, nat_cmp};
 
 use crate::chains::{print_lines, time_base, time_chains};
 use crate::draw::{LOOKUPS, draw, draw_below, tell};
+use crate::files::{load_file, write_file};
 use crate::parts::{Lines, time_part};
 use crate::planes::{drawn_triples, spread_triples, time_plane};
 use std::alloc::{AllocError, Global};
@@ -36,6 +39,8 @@ enum Task {
     Plane(u64),
     Triples(u64),
     Part(Lines, u64),
+    File(Lines, u64, String),
+    Load(String),
     Chains(u64),
     Base(u64),
     Print(u64),
@@ -51,12 +56,14 @@ fn main(rt: HostRuntime) -> anyhow::Result<()> {
         Task::Plane(count) => time_plane(&rt, rt.alloc(), &spread_triples(rt.alloc(), count)?),
         Task::Triples(count) => time_plane(&rt, rt.alloc(), &drawn_triples(rt.alloc(), count)?),
         Task::Part(lines, count) => time_part(&rt, lines, count),
+        Task::File(lines, count, name) => write_file(&rt, lines, count, &name),
+        Task::Load(name) => load_file(&rt, &name),
         Task::Chains(children) => time_chains(&rt, children),
         Task::Base(count) => time_base(&rt, count),
         Task::Print(count) => print_lines(&rt, count),
         Task::Nothing => {
             println!(rt;
-                "bits N, numbers N, texts N, sequence N, plane N, triples N, iris N, text N, chains N, base N, lines N"
+                "bits N, numbers N, texts N, sequence N, plane N, triples N, iris N, text N, file N NAME, long N NAME, load NAME, chains N, base N, lines N"
             )?;
             Ok(())
         }
@@ -69,9 +76,15 @@ fn read_task(rt: &(impl Env + AllocGlobal)) -> anyhow::Result<Task> {
     let (Some(kind), Some(count)) = (words.next(), words.next()) else {
         return Ok(Task::Nothing);
     };
+    if kind.as_str() == "load" {
+        return Ok(Task::Load(count));
+    }
     let Ok(count) = count.as_str().parse() else {
         return Ok(Task::Nothing);
     };
+    if let Some(name) = words.next() {
+        return Ok(file_task(kind.as_str(), count, name));
+    }
     Ok(match kind.as_str() {
         "bits" => Task::Bits(count),
         "numbers" => Task::Numbers(count),
@@ -86,6 +99,15 @@ fn read_task(rt: &(impl Env + AllocGlobal)) -> anyhow::Result<Task> {
         "lines" => Task::Print(count),
         _ => Task::Nothing,
     })
+}
+
+/// The file that is to be written under a name.
+fn file_task(kind: &str, count: u64, name: String) -> Task {
+    match kind {
+        "file" => Task::File(Lines::Iris, count, name),
+        "long" => Task::File(Lines::Long, count, name),
+        _ => Task::Nothing,
+    }
 }
 
 fn time_bits(rt: &(impl Print + Clock), alloc: Global, count: u64) -> anyhow::Result<()> {

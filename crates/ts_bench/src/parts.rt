@@ -21,6 +21,8 @@ pub(crate) enum Lines {
     Iris,
     /// Literals with escapes, tags and types, blank labels, and long IRIs with shared fronts.
     Text,
+    /// IRIs of which the subjects share a million letters.
+    Long,
 }
 
 /// How many predicates there are.
@@ -81,6 +83,15 @@ fn append_iri(letter: &str, number: u64, line: &mut String) -> Result<(), AllocE
     write!(line, "<http://example.org/{letter}{number}>")
 }
 
+/// Appends a subject of a million letters and a number, a predicate and an object.
+fn append_long(number: u64, line: &mut String) -> Result<(), AllocError> {
+    line.push_str("<")?;
+    for _ in 0..100_000 {
+        line.push_str("abcdefghij")?;
+    }
+    write!(line, "{number}> <p> <o>")
+}
+
 /// A line of one of `count` triples.
 pub(crate) fn line(
     alloc: Global,
@@ -107,6 +118,7 @@ pub(crate) fn line(
                 append_node(x, count, &mut line)?;
             }
         }
+        Lines::Long => append_long(draw_below(x, count.max(1)), &mut line)?,
     }
     line.push_str(" .")?;
     Ok(line)
@@ -242,7 +254,7 @@ fn terms_of(alloc: Global, spellings: &[&[u8]], kind: TermKind) -> anyhow::Resul
 }
 
 /// The facts of a first layer of these triples.
-fn facts_of(alloc: Global, triples: &[SignedTriple]) -> anyhow::Result<PartFacts> {
+pub(crate) fn facts_of(alloc: Global, triples: &[SignedTriple]) -> anyhow::Result<PartFacts> {
     let terms = spellings_of(alloc, triples)?;
     Ok(PartFacts {
         kind: PartKind::Layer,
@@ -261,7 +273,7 @@ fn facts_of(alloc: Global, triples: &[SignedTriple]) -> anyhow::Result<PartFacts
 }
 
 /// Whether these are facts of a first layer with no more terms than there may be.
-fn is_first_layer(facts: &PartFacts) -> bool
+pub(crate) fn is_first_layer(facts: &PartFacts) -> bool
     ensures { IsTrue result → KeepsHeaderRules (header_of facts.now 0) }
 {
     let terms = facts.nodes.len() as u128 + facts.values.len() as u128;

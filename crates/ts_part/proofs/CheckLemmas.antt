@@ -8,10 +8,12 @@ use Rattle.ts_model.specs.declared.term.TermKind.{TermKind}
 use Rattle.ts_model.specs.declared.term.TermKind.TheVariants.{Node, Predicate, Value}
 use Rattle.ts_plane.specs.Parts.{PlaneParts}
 use Rattle.ts_plane.specs.Plane.{cut}
+use Rattle.ts_part.specs.declared.damage.LoadError.{LoadError}
+use Rattle.ts_part.specs.declared.damage.LoadError.TheVariants as errors
 use Rattle.ts_part.specs.declared.header.Header.{Header}
 use Rattle.ts_part.specs.declared.header.PartKind.{PartKind}
 use Rattle.ts_part.specs.declared.header.PartKind.TheVariants.{Layer, Rollup}
-use Rattle.ts_part.specs.Faults.{IsTermsFault, IsPlaneFault}
+use Rattle.ts_part.specs.Faults.{IsTermsFault, IsPlaneFault, IsSectionsError, NeedsMemory}
 use Rattle.ts_part.specs.Header.{section_count}
 use Rattle.ts_part.specs.Layout.{of_kind, plane_from}
 use Rattle.ts_part.specs.Sections.{Reading, StartsRule, BytesRule, PlaneRule, MapRule, KeepUpTo, IsFirstFault}
@@ -482,3 +484,7 @@ all_kept h sections read keep terms predicates = elim (layer_or_rollup h.kind) [
       let last : Reading = record with_map { predicate_map = two.0 } in
       (last, subst (KeepUpTo h sections last) count with_two)
 ]
+
+-- want of memory, where it is needed
+pub memory_error : (h : Header) (sections : List (List ℕ)) (error : LoadError) → error ≡ errors.Memory → NeedsMemory h sections → IsSectionsError h sections error
+memory_error h sections error is needs = subst (IsSectionsError h sections) (sym is) needs

@@ -48,7 +48,7 @@ facts_fault file places h facts tells fault = record { facts = facts; says = tel
 -- a fault of the sections is one of the file
 pub sections_error : (file : List ℕ) (h : Header) (sections : List (List ℕ)) (error : LoadError) → HasHeader file h → AreSections file (section_count h.kind) sections
     → IsSectionsError h sections error → IsLoadError file h error
-sections_error file h sections errors.Memory headed lie fault = record { headed = headed; sections = sections; lie = lie }
+sections_error file h sections errors.Memory headed lie fault = record { headed = headed; sections = sections; lie = lie; needs = fault }
 sections_error file h sections (errors.Damage faults.Header) headed lie fault = absurd fault
 sections_error file h sections (errors.Damage faults.Table) headed lie fault = absurd fault
 sections_error file h sections (errors.Damage (faults.Section kind)) headed lie fault = record { headed = headed; sections = sections; lie = lie; first = fault }

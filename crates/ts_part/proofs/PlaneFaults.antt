@@ -6,7 +6,7 @@ use Rattle.ts_plane.specs.declared.triple.IdTriple.{IdTriple}
 use Rattle.ts_plane.specs.Parts.{PlaneParts, pair_of, parts_of, same_pair}
 use Rattle.ts_plane.specs.Rules.{section, KeepsBefore, IsFirstFault}
 use Rattle.ts_plane.proofs.GroupMembers.{length-last_marks}
-use Rattle.ts_part.specs.Faults.{IsPlaneFault}
+use Rattle.ts_part.specs.Faults.{IsPlaneFault, NeedsMarks}
 use Rattle.ts_part.specs.Sections.{PlaneRule}
 
 -- fewer sections keep their rules too
@@ -46,6 +46,12 @@ plane_fault_of sections terms predicates count i first counted = record {
   before = record { keep = first.before; counted = counted };
   none = λ others rule. first.fault others rule.keep;
 }
+
+-- the fault that marks tell
+pub marked_fault : (sections : List (List ℕ)) (terms predicates count later i : ℕ) → NeedsMarks terms predicates count sections later → IsFirstFault sections terms predicates i
+    → IsPlaneFault terms predicates count sections i
+marked_fault sections terms predicates count later i needs first = plane_fault_of sections terms predicates count i first (λ high.
+    one_count sections terms predicates first.parts needs.unmarked.parts i 5 high (omega arith) first.before needs.unmarked.before ∙ needs.counted)
 
 -- the ends of triples are as many as the triples
 pub length-object_ends : (triples : List IdTriple) → length (parts_of triples).object_ends ≡ length triples

@@ -1,5 +1,5 @@
 -- The texts of a dictionary, made one after another from its pieces.
-use Rattle.std.proofs.Common.{◌≡◌, ℕ, ◌+◌, ◌-◌, ◌%◌, ◌<◌, ◌≤◌, List, [], ◌++◌, length, take, drop, get_or, eqb, All, sym, ◌∙◌, ap, subst, arith, inl, inr}
+use Rattle.std.proofs.Common.{Result, Ok, Err, IfErr, ◌≡◌, ℕ, ◌+◌, ◌-◌, ◌%◌, ◌<◌, ◌≤◌, List, [], ◌++◌, length, take, drop, get_or, eqb, All, sym, ◌∙◌, ap, subst, arith, inl, inr}
 use Rattle.std.proofs.lemmas.Bool.{cases_eq, cases_lt, cond-true, cond-false, eq-eqb, ne_eqb}
 use Rattle.std.proofs.lemmas.List.{get_or_default, length-append}
 use Rattle.ts_front.specs.Shared.{shared_length, text_at}
@@ -88,3 +88,7 @@ all_terms kind texts i text are end = λ k d low. subst (IsTermOf kind) (get_or_
 pub not_all : (kind : TermKind) (texts : List (List ℕ)) (i : ℕ) (text : List ℕ) → i < length texts → text ≡ text_at texts i → ¬ IsTermOf kind text
     → ¬ All (IsTermOf kind) texts
 not_all kind texts i text low e none all = none (subst (IsTermOf kind) (sym e) (all i [] low))
+
+pub err_since : {X E P : Type 0} (r : Result X E) → P → IfErr r (λ _. P)
+err_since (Ok x) p = tt
+err_since (Err e) p = p

@@ -1,12 +1,13 @@
 //! The sections of a file, checked in the order of their kinds.
 
 ghost use Rattle.std.specs.Prelude.{◌≡◌, ℕ, ◌+◌, ◌≤◌, IfErr, IfNone, IfOk, IfSome, List, None, Option};
+ghost use Rattle.ts_plane.specs.Parts.{PlaneParts};
 ghost use Rattle.ts_part.specs.declared.header.PartKind.TheVariants.{Layer, Rollup};
-ghost use Rattle.ts_part.specs.Faults.{IsSectionsError, IsTermsFault};
+ghost use Rattle.ts_part.specs.Faults.{HasEntries, IsPlaneFault, IsSectionsError, IsTermsFault, NeedsMarks};
 ghost use Rattle.ts_part.specs.Header.{KeepsHeaderRules, section_count};
-ghost use Rattle.ts_part.specs.Layout.{of_kind};
+ghost use Rattle.ts_part.specs.Layout.{of_kind, plane_from};
 ghost use Rattle.ts_part.specs.Sectioned.{HasPlaces, sections_at};
-ghost use Rattle.ts_part.specs.Sections.{BytesRule, KeepUpTo, MapRule, Reading};
+ghost use Rattle.ts_part.specs.Sections.{BytesRule, KeepUpTo, MapRule, PlaneRule, Reading};
 
 use crate::damage::{Damage, LoadError};
 use crate::header::PartKind;
@@ -42,8 +43,8 @@ pub(crate) fn check_sections(alloc: Global, s: &Sections<'_>) -> Result<(), Load
         1: fault_of_terms(alloc, s, 1, TermKind::Node, h.nodes)?;
         3: fault_of_terms(alloc, s, 3, TermKind::Predicate, h.predicates)?;
         5: fault_of_terms(alloc, s, 5, TermKind::Value, h.values)?;
-        7: plane_fault(s.file, &s.eight_from(7), terms, predicates, h.additions);
-        15: plane_fault(s.file, &s.eight_from(15), h.terms_before, h.predicates_before, h.removals);
+        7: fault_of_plane(alloc, s, 7, terms, predicates, h.additions)?;
+        15: fault_of_plane(alloc, s, 15, h.terms_before, h.predicates_before, h.removals)?;
         23: fault_of_map(s, 23, h.nodes + h.values);
         24: fault_of_map(s, 24, h.predicates);
     }
@@ -65,9 +66,43 @@ fn fault_of_terms(
         × BytesRule kind count (of_kind (sections_at s.now) first) (of_kind (sections_at s.now) (first + 1)) texts)) }
     ensures some { IfOk result (λ fault. IfSome fault
         (IsTermsFault kind count (of_kind (sections_at s.now) first) (of_kind (sections_at s.now) (first + 1)))) }
-    ensures memory { IfErr result (λ error. error ≡ LoadError.Memory) }
+    ensures memory { IfErr result (λ error. (error ≡ LoadError.Memory)
+        × HasEntries count (of_kind (sections_at s.now) first) (of_kind (sections_at s.now) (first + 1))) }
 {
     match terms_fault(alloc, s.bytes_of(first), s.bytes_of(first + 1), kind, count) {
+        Ok(fault) => Ok(fault),
+        Err(_) => Err(LoadError::Memory),
+    }
+}
+
+/// The first fault of the plane whose first section has this kind.
+fn fault_of_plane(
+    alloc: Global,
+    s: &Sections<'_>,
+    first: usize,
+    terms: u64,
+    predicates: u64,
+    count: u64,
+) -> Result<Option<u8>, LoadError>
+    requires placed { HasPlaces s.now }
+    requires some { 1 ≤ first }
+    requires few { first ≤ 15 }
+    requires there { first + 7 ≤ section_count s.now.header.now.kind }
+    ensures none { IfOk result (λ fault. IfNone fault ((parts : PlaneParts)
+        × PlaneRule terms predicates count (plane_from (sections_at s.now) first) parts 8)) }
+    ensures some { IfOk result (λ fault. IfSome fault
+        (IsPlaneFault terms predicates count (plane_from (sections_at s.now) first))) }
+    ensures memory { IfErr result (λ error. (error ≡ LoadError.Memory)
+        × (later : ℕ) × NeedsMarks terms predicates count (plane_from (sections_at s.now) first) later) }
+{
+    match plane_fault(
+        alloc,
+        s.file,
+        &s.eight_from(first),
+        terms,
+        predicates,
+        count,
+    ) {
         Ok(fault) => Ok(fault),
         Err(_) => Err(LoadError::Memory),
     }

@@ -3,7 +3,7 @@
 use crate::Damage;
 use crate::checks::{damage_of, front_header};
 use crate::format_writer::{Said, file_of};
-use crate::samples::{CHILD, FIRST, MIXED, Sample, VALUED, WITH_REMOVAL};
+use crate::samples::{CHILD, FIRST, MIXED, Sample, TURNED, VALUED, WITH_REMOVAL};
 use crate::words::{
     FIRST_HEADER, FIRST_SECTIONS, Section, UPPER_HEADER, UPPER_SECTIONS, file_in_words,
 };
@@ -179,6 +179,36 @@ fn finds_changed_maps(rt: HostRuntime) -> Result<(), Fail> {
     let mut layer = file_in_words(rt.alloc(), &UPPER_HEADER, &UPPER_SECTIONS)?;
     change(&mut layer, &[(8, 1), (11, 22)]);
     assert_eq!(rt; own_damage(rt.alloc(), layer), Some(Damage::Table));
+    Ok(())
+}
+
+/// The number of eight bytes at a place.
+fn number_at(file: &[u8], place: usize) -> Option<usize> {
+    let mut bytes = [0; 8];
+    bytes.copy_from_slice(file.get(place..)?.get(..8)?);
+    Some(u64::from_be_bytes(bytes) as usize)
+}
+
+/// Takes the inverse for the map, in the section whose start and length the table has at this place.
+fn take_inverse(file: &mut [u8], place: usize) -> Option<()> {
+    let start = number_at(file, place)?;
+    let half = number_at(file, place.saturating_add(8))? / 2;
+    for i in start..start.saturating_add(half) {
+        let byte = *file.get(i.saturating_add(half))?;
+        *file.get_mut(i)? = byte;
+    }
+    Some(())
+}
+
+/// Maps that are not their own inverses, with these in their place.
+#[test]
+fn finds_inverses_for_maps(rt: HostRuntime) -> Result<(), Fail> {
+    let whole = file_of(rt.alloc(), &TURNED.said(rt.alloc())?)?;
+    for (place, kind) in [(624, 23), (648, 24)] {
+        let mut file = whole.clone()?;
+        take_inverse(&mut file, place).ok_or("no map")?;
+        assert_eq!(rt; own_damage(rt.alloc(), file), Some(Damage::Section(kind)));
+    }
     Ok(())
 }
 

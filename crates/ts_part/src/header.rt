@@ -15,7 +15,7 @@ use ts_model::NUMBER_LIMIT;
 pub const HEADER: usize = 88;
 
 /// A part is a layer, or a rollup of layers.
-#[derive(Clone, Copy, PartialEq, Eq, Debug)]
+#[derive(Clone, Copy, PartialEq, Eq, Hash, Debug)]
 pub enum PartKind {
     Layer,
     Rollup,

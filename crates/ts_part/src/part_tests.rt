@@ -1,8 +1,8 @@
 //! What parts tell: headers, triples, and terms of each kind that are there and that aren't.
 
-use crate::PartKind;
 use crate::checks::{ANY, loaded, predicate_text_of, term_of, triples_in, written};
-use crate::samples::{CHILD, MIXED, Sample, TWO_BLOCKS, WITH_IDLE_TERM, triples};
+use crate::samples::{CHILD, MIXED, Sample, TURNED, TWO_BLOCKS, WITH_IDLE_TERM, triples};
+use crate::{Part, PartKind};
 use std::alloc::Global;
 use std::process::Abort;
 use std::test::Fail;
@@ -21,6 +21,18 @@ const IN_MIXED: Numbers = &[
     (b"<r>", None, None, None),
     (b"\"\"", None, None, None),
     (b"", None, None, None),
+];
+
+/// In a rollup whose maps are not their own inverses.
+const IN_TURNED: Numbers = &[
+    (b"<a>", Some(3), None, None),
+    (b"<b>", Some(1), None, None),
+    (b"<c>", Some(4), None, None),
+    (b"<d>", Some(5), None, None),
+    (b"\"v\"", None, Some(2), None),
+    (b"<p>", None, None, Some(2)),
+    (b"<q>", None, None, Some(3)),
+    (b"<r>", None, None, Some(1)),
 ];
 
 /// In a layer over another, of which a node is new.
@@ -58,31 +70,62 @@ fn first_wrong(alloc: Global, sample: &Sample, numbers: Numbers) -> Result<Optio
 #[test]
 fn finds_numbers(rt: HostRuntime) -> Result<(), Fail> {
     assert_eq!(rt; first_wrong(rt.alloc(), &MIXED, IN_MIXED)?, None);
+    assert_eq!(rt; first_wrong(rt.alloc(), &TURNED, IN_TURNED)?, None);
     assert_eq!(rt; first_wrong(rt.alloc(), &CHILD, IN_CHILD)?, None);
     assert_eq!(rt; first_wrong(rt.alloc(), &TWO_BLOCKS, IN_TWO_BLOCKS)?, None);
     Ok(())
 }
 
-/// By their numbers the terms of the rollup whose numbers go another way, and whether each is a node.
-const TERMS: [(&[u8], bool); 4] = [
-    (b"<s>", true),
-    (b"\"v\"", false),
-    (b"<t>", true),
-    (b"\"u\"", false),
-];
+/// By their numbers the terms of a rollup, and whether each is a node; and its predicates.
+type Spellings = (&'static [(&'static [u8], bool)], &'static [&'static [u8]]);
+
+/// Of the rollup whose numbers go another way than its spellings.
+const OF_MIXED: Spellings = (
+    &[
+        (b"<s>", true),
+        (b"\"v\"", false),
+        (b"<t>", true),
+        (b"\"u\"", false),
+    ],
+    &[b"<q>", b"<p>"],
+);
+
+/// Of the rollup whose maps are not their own inverses.
+const OF_TURNED: Spellings = (
+    &[
+        (b"<b>", true),
+        (b"\"v\"", false),
+        (b"<a>", true),
+        (b"<c>", true),
+        (b"<d>", true),
+    ],
+    &[b"<r>", b"<p>", b"<q>"],
+);
+
+/// Whether a part has these spellings under its numbers, counted from 1.
+fn has_spellings(alloc: Global, part: &Part, spellings: Spellings) -> Result<bool, Fail> {
+    for (i, (text, is_node)) in spellings.0.iter().enumerate() {
+        let (spelling, node) = term_of(alloc, part, i as u64 + 1)?.ok_or("no term")?;
+        if spelling.as_slice() != *text || node != *is_node {
+            return Ok(false);
+        }
+    }
+    for (i, text) in spellings.1.iter().enumerate() {
+        let spelling = predicate_text_of(alloc, part, i as u64 + 1)?.ok_or("no predicate")?;
+        if spelling.as_slice() != *text {
+            return Ok(false);
+        }
+    }
+    Ok(true)
+}
 
 #[test]
 fn tells_spellings(rt: HostRuntime) -> Result<(), Fail> {
-    let part = loaded(rt.alloc(), written(rt.alloc(), &MIXED)?)?;
-    for (i, (text, is_node)) in TERMS.iter().enumerate() {
-        let (spelling, node) = term_of(rt.alloc(), &part, i as u64 + 1)?.ok_or("no term")?;
-        assert_eq!(rt; spelling.as_slice(), *text);
-        assert_eq!(rt; node, *is_node);
-    }
-    let first = predicate_text_of(rt.alloc(), &part, 1)?.ok_or("no predicate")?;
-    let second = predicate_text_of(rt.alloc(), &part, 2)?.ok_or("no predicate")?;
-    assert_eq!(rt; first.as_slice(), b"<q>".as_slice());
-    assert_eq!(rt; second.as_slice(), b"<p>".as_slice());
+    let mixed = loaded(rt.alloc(), written(rt.alloc(), &MIXED)?)?;
+    let turned = loaded(rt.alloc(), written(rt.alloc(), &TURNED)?)?;
+    let is_mixed = has_spellings(rt.alloc(), &mixed, OF_MIXED)?;
+    let is_turned = has_spellings(rt.alloc(), &turned, OF_TURNED)?;
+    assert!(rt; is_mixed && is_turned);
     Ok(())
 }
 

@@ -164,6 +164,21 @@ pub(crate) const MIXED: Sample = Sample {
     predicate_map: &[1, 0],
 };
 
+/// A rollup whose two maps are not their own inverses: its entries have the numbers 3, 1, 4, 5 and 2, its predicates 2, 3 and 1.
+pub(crate) const TURNED: Sample = Sample {
+    kind: PartKind::Rollup,
+    number: 3,
+    parent: None,
+    before: (0, 0),
+    nodes: &[b"<a>", b"<b>", b"<c>", b"<d>"],
+    predicates: &[b"<p>", b"<q>", b"<r>"],
+    values: &[b"\"v\""],
+    additions: &[(1, 1, 3), (3, 2, 2), (4, 3, 5)],
+    removals: &[],
+    term_map: &[2, 0, 3, 4, 1],
+    predicate_map: &[1, 2, 0],
+};
+
 /// Nine triples with one object: ten nodes are two blocks of a dictionary.
 pub(crate) const TWO_BLOCKS: Sample = Sample {
     kind: PartKind::Layer,
@@ -192,7 +207,7 @@ pub(crate) const TWO_BLOCKS: Sample = Sample {
 };
 
 /// All of them.
-pub(crate) static ALL: [Sample; 9] = [
+pub(crate) static ALL: [Sample; 10] = [
     EMPTY,
     FIRST,
     VALUED,
@@ -202,6 +217,7 @@ pub(crate) static ALL: [Sample; 9] = [
     UPPER,
     WHOLE,
     MIXED,
+    TURNED,
 ];
 
 impl Sample {

@@ -1,9 +1,9 @@
 //! The terms of a dictionary.
 
-ghost use Rattle.std.specs.Prelude.{◌≡◌, ℕ, ◌+◌, ◌<◌, ◌≤◌, ◌++◌, ◌↔◌, All, IfNone, IfOk, IfSome, IsTrue, List, length, take};
+ghost use Rattle.std.specs.Prelude.{◌≡◌, ℕ, ◌+◌, ◌<◌, ◌≤◌, ◌++◌, ◌↔◌, All, IfErr, IfNone, IfOk, IfSome, IsTrue, List, length, take};
 ghost use Rattle.ts_front.specs.Dictionary.{DictionarySays};
 ghost use Rattle.ts_model.specs.TextTerm.{IsTerm};
-ghost use Rattle.ts_part.specs.Faults.{IsTermsFault};
+ghost use Rattle.ts_part.specs.Faults.{HasEntries, IsTermsFault};
 ghost use Rattle.ts_part.specs.Sections.{BytesRule, StartsRule};
 
 use std::alloc::{AllocError, Global};
@@ -23,6 +23,7 @@ pub(crate) fn terms_fault(
     ensures none { IfOk result (λ fault. IfNone fault
         ((texts : List (List ℕ)) × BytesRule kind count starts.now bytes.now texts)) }
     ensures some { IfOk result (λ fault. IfSome fault (IsTermsFault kind count starts.now bytes.now)) }
+    ensures memory { IfErr result (λ _. HasEntries count starts.now bytes.now) }
 {
     let Some(texts) = FrontView::open(starts, bytes) else {
         return Ok(Some(starts_fault(starts)));
@@ -52,8 +53,9 @@ fn starts_fault(starts: &[u8]) -> u8
 /// Whether each text is a term of the kind. Memory is taken for the longest of them, and within the limit
 /// of terms alone.
 fn are_terms(alloc: Global, texts: &FrontView<'_>, kind: TermKind) -> Result<bool, AllocError>
-    ensures { IfOk result (λ are. IsTrue are
+    ensures terms { IfOk result (λ are. IsTrue are
         ↔ All (λ text. IsTerm (record { kind = kind; spelling = text })) texts.now) }
+    ensures memory { IfErr result (λ _. 0 < length texts.now) }
 {
     let mut text = Vec::new(alloc);
     for piece in texts.entries() {

@@ -10,6 +10,7 @@ pub mod GroupLemmas
 pub mod GroupMembers
 pub mod Hints
 pub mod KeptLemmas
+pub mod MarkLemmas
 pub mod Members
 pub mod Narrowed
 pub mod NextLemmas

@@ -1,12 +1,15 @@
 -- The first fault of the last three sections.
-use Rattle.std.proofs.Common.{◌≡◌, ℕ, Bool, List, [], map, length, nat_eq, sym, ◌∙◌, ap, ap₂, arith}
+use Rattle.std.proofs.Common.{◌≡◌, ℕ, Bool, false, List, [], map, length, nat_eq, sym, ◌∙◌, ap, ap₂, subst, arith, inl, inr}
+use Rattle.std.specs.List.Sorted.{IsStrictlyIncreasing}
 use Rattle.ts_bits.specs.BitArray.{BitsSay}
 use Rattle.ts_bits.specs.Rank.{ones}
-use Rattle.ts_log.specs.LogArray.{LogSays}
+use Rattle.ts_log.specs.LogArray.{LogSays, LogSaysOnly}
 use Rattle.ts_adjacency.specs.Rows.{IsClosed}
 use Rattle.ts_adjacency.specs.Adjacency.{Adjacency, edges}
 use Rattle.ts_plane.specs.Groups.{last_marks}
-use Rattle.ts_plane.specs.Objects.{AreTurned, IsObjectsFault, KeepsObjects, with_objects}
+use Rattle.ts_plane.specs.declared.error.OpenError.{OpenError}
+use Rattle.ts_plane.specs.declared.error.OpenError.TheVariants.{Fault, Unmarked}
+use Rattle.ts_plane.specs.Objects.{AreTurned, EachStands, IsObjectsError, IsObjectsFault, IsObjectsOr, KeepsObjects, ShowEach, with_objects}
 use Rattle.ts_plane.specs.Turned.{rising_of, turned}
 
 pub objects_fault : (objects ends pairs : List ℕ) (triples : Adjacency)
@@ -65,4 +68,24 @@ objects_kept objects ends pairs triples list by says bits_say counted long close
   objects_keep = λ h. record { says = says; exact = are.objects_are };
   ends_keep = λ h. record { says = bits_say; counted = counted; long = long; closed = closed };
   pairs_keep = λ h. record { says = pairs_say; rows = are.ends_are; exact = are.rights_are };
+}
+
+-- which of two sections is at fault, as far as it is told
+pub objects_error : (objects ends pairs : List ℕ) (triples : Adjacency) (list : List ℕ) (shown : Bool) (i : ℕ) (error : OpenError) → LogSays objects list
+    → ((others : List ℕ) → LogSays objects others → others ≡ list) → IsStrictlyIncreasing list → (shown ≡ false → ¬ ShowEach ends pairs list triples)
+    → (list ≡ rising_of triples.rights → IsObjectsFault objects ends pairs triples i) → IsObjectsOr list triples.rights shown i error
+    → IsObjectsError objects ends pairs triples error
+objects_error objects ends pairs triples list shown i (Fault j) says only rising hidden exact or = elim or [
+  | inl is ↦ subst (IsObjectsFault objects ends pairs triples) (sym is.1) (exact is.0)
+  | inr not ↦ subst (IsObjectsFault objects ends pairs triples) (sym not.1)
+      (objects_fault objects ends pairs triples (λ others said is. not.0 (sym (only others said) ∙ is)))
+]
+objects_error objects ends pairs triples list shown i (Unmarked j) says only rising hidden exact or = record {
+  list = list;
+  says = says;
+  rising = rising;
+  found = or.1;
+  hidden = hidden or.2;
+  exact = λ is. subst (IsObjectsFault objects ends pairs triples) (sym or.0) (exact is);
+  other = λ not. objects_fault objects ends pairs triples (λ others said is. not (sym (only others said) ∙ is));
 }

@@ -10,11 +10,14 @@ use Rattle.ts_log.proofs.SaysLemmas.{one_list_said}
 use Rattle.ts_wavelet.specs.WaveletTree.{WaveletSays}
 use Rattle.ts_adjacency.specs.Rows.{IsClosed}
 use Rattle.ts_adjacency.specs.Adjacency.{Adjacency}
-use Rattle.ts_plane.specs.Objects.{IsObjectsFault, KeepsObjects, with_objects}
+use Rattle.ts_plane.specs.declared.error.OpenError.{OpenError}
+use Rattle.ts_plane.specs.declared.error.OpenError.TheVariants.{Fault, Unmarked}
+use Rattle.ts_plane.specs.Objects.{IsObjectsError, IsObjectsFault, KeepsObjects, with_objects}
 use Rattle.ts_plane.specs.Parts.{PlaneParts}
 use Rattle.ts_plane.specs.Plane.{cut}
 use Rattle.ts_plane.specs.Rules.{section, IsBounded, RisesInRows, KeepsBefore, IsFirstFault}
-use Rattle.ts_plane.proofs.FirstFaults.{KeepsFront, front_fault}
+use Rattle.ts_plane.specs.Unmarked.{IsOpenError}
+use Rattle.ts_plane.proofs.FirstFaults.{KeepsFront, front_fault, front_keeps}
 
 -- a section is what lies at its place
 pub section_at : (file : List ℕ) (places : List (ℕ × ℕ)) (i : ℕ) (d : ℕ × ℕ) → i < length places
@@ -96,4 +99,20 @@ objects_fault sections terms predicates parts i front fault = record {
       let ends_same = says_one (section sections 3) others.object_ends parts.object_ends (keeps.object_ends (omega (arith, from))).says (front.object_ends (omega arith)).says in
       let rights_same = one_list_said (section sections 4) others.pair_objects parts.pair_objects (keeps.pair_objects (omega (arith, from))).says (front.pair_objects (omega arith)).says in
       fault.fault others ends_same rights_same (record { objects_keep = keeps.objects; ends_keep = keeps.object_pair_ends; pairs_keep = keeps.object_pairs }));
+}
+
+pub objects_error : (sections : List (List ℕ)) (terms predicates : ℕ) (parts : PlaneParts) (error : OpenError) → KeepsFront sections terms predicates parts 5
+    → IsObjectsError (section sections 5) (section sections 6) (section sections 7) (record { ends = parts.object_ends; rights = parts.pair_objects }) error
+    → IsOpenError sections terms predicates error
+objects_error sections terms predicates parts (Fault i) front fault = objects_fault sections terms predicates parts i front fault
+objects_error sections terms predicates parts (Unmarked i) front needs = record {
+  parts = parts;
+  before = front_keeps sections terms predicates parts 5 (omega arith) front;
+  objects = needs.list;
+  say = needs.says;
+  rising = needs.rising;
+  found = needs.found;
+  hidden = needs.hidden;
+  exact = λ is. objects_fault sections terms predicates parts i front (needs.exact is);
+  other = λ not. objects_fault sections terms predicates parts 5 front (needs.other not);
 }

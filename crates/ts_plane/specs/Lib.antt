@@ -5,6 +5,7 @@ pub mod Follows
 pub mod Groups
 pub mod Kept
 pub mod Lookups
+pub mod Marks
 pub mod Objects
 pub mod Parts
 pub mod Pattern
@@ -14,3 +15,4 @@ pub mod Rest
 pub mod Rules
 pub mod Triple
 pub mod Turned
+pub mod Unmarked

@@ -1,7 +1,13 @@
 -- The last three sections: the objects, and the places of each object's pairs.
-use Rattle.std.specs.Prelude.{◌≡◌, ℕ, ◌+◌, ◌<◌, ◌≤◌, nat_eq, List, [], length, map, slice_index}
-use Rattle.ts_adjacency.specs.Rows.{row_of}
+use Rattle.std.specs.Prelude.{◌≡◌, ℕ, ◌+◌, ◌<◌, ◌≤◌, ◌⊎◌, Bool, false, nat_eq, List, [], length, map, slice_index}
+use Rattle.std.specs.List.Sorted.{IsStrictlyIncreasing}
+use Rattle.ts_bits.specs.BitArray.{BitsSay}
+use Rattle.ts_bits.specs.Rank.{ones}
+use Rattle.ts_log.specs.LogArray.{LogSays}
+use Rattle.ts_adjacency.specs.Rows.{IsClosed, row_of}
 use Rattle.ts_adjacency.specs.Adjacency.{Adjacency, edges}
+use Rattle.ts_plane.specs.declared.error.OpenError.{OpenError}
+use Rattle.ts_plane.specs.declared.error.OpenError.TheVariants.{Fault, Unmarked}
 use Rattle.ts_plane.specs.Groups.{last_marks}
 use Rattle.ts_plane.specs.Turned.{rising_of, turned}
 use Rattle.ts_plane.specs.Parts.{PlaneParts}
@@ -65,3 +71,42 @@ pub record IsObjectsFault (objects ends pairs : List ℕ) (triples : Adjacency) 
   pub found_rows : Adjacency
   pub before : KeepsObjects objects ends pairs (with_objects triples found_objects found_rows) i
   pub fault : (others : PlaneParts) → others.object_ends ≡ triples.ends → others.pair_objects ≡ triples.rights → ¬ KeepsObjects objects ends pairs others (i + 1)
+
+-- row i shows object i: one of its places has a pair with the object
+abbrev pub IsShown : List ℕ → Adjacency → Adjacency → ℕ → Type 0
+IsShown objects by triples i =
+    (j : ℕ) × (j < length by.ends) × (row_of by.ends j ≡ i) × HasEdge triples (slice_index by.rights j) (slice_index objects i)
+
+abbrev pub EachShown : List ℕ → Adjacency → Adjacency → Type 0
+EachShown objects by triples = (i : ℕ) → i < length objects → IsShown objects by triples i
+
+-- the last two sections are rows, one for each object, and show each
+pub record ShowEach (ends pairs objects : List ℕ) (triples : Adjacency) : Type 0 where
+  pub by : Adjacency
+  pub ends_say : BitsSay ends by.ends
+  pub pairs_say : LogSays pairs by.rights
+  pub counted : ones by.ends ≡ length objects
+  pub long : length by.ends ≡ length triples.ends
+  pub closed : IsClosed by.ends
+  pub paired : length by.ends ≡ length by.rights
+  pub shown : EachShown objects by triples
+
+-- Only marks tell whether section 5 or section i is at fault: the objects rise, and each object of a triple is one of them, but whether each of
+-- them is one of a triple isn't shown by the last two sections
+pub record NeedsMarks (objects ends pairs : List ℕ) (triples : Adjacency) (i : ℕ) : Type 0 where
+  pub list : List ℕ
+  pub says : LogSays objects list
+  pub rising : IsStrictlyIncreasing list
+  pub found : EachStands list triples.rights
+  pub hidden : ¬ ShowEach ends pairs list triples
+  pub exact : list ≡ rising_of triples.rights → IsObjectsFault objects ends pairs triples i
+  pub other : ¬ (list ≡ rising_of triples.rights) → IsObjectsFault objects ends pairs triples 5
+
+abbrev pub IsObjectsError : List ℕ → List ℕ → List ℕ → Adjacency → OpenError → Type 0
+IsObjectsError objects ends pairs triples (Fault i) = IsObjectsFault objects ends pairs triples i
+IsObjectsError objects ends pairs triples (Unmarked i) = NeedsMarks objects ends pairs triples i
+
+-- which section is at fault, where it is section 5 exactly if the objects aren't those of the triples, and else section i
+abbrev pub IsObjectsOr : List ℕ → List ℕ → Bool → ℕ → OpenError → Type 0
+IsObjectsOr objects rights shown i (Fault j) = ((objects ≡ rising_of rights) × (j ≡ i)) ⊎ ((¬ (objects ≡ rising_of rights)) × (j ≡ 5))
+IsObjectsOr objects rights shown i (Unmarked j) = (j ≡ i) × EachStands objects rights × (shown ≡ false)

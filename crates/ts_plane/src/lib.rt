@@ -11,9 +11,11 @@
 mod by_object;
 mod by_predicate;
 mod checked;
+mod error;
 #[cfg(test)]
 mod large_tests;
 mod lookup;
+mod marks;
 mod objects;
 mod open;
 mod order;
@@ -33,6 +35,7 @@ mod walk;
 mod walk_tests;
 mod write;
 
+pub use error::OpenError;
 pub use order::is_plane_list;
 pub use pattern::IdPattern;
 pub use triple::IdTriple;

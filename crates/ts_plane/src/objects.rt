@@ -1,6 +1,6 @@
 //! The last three sections: the objects, and the places of each object's pairs.
 
-ghost use Rattle.std.specs.Prelude.{◌≡◌, ◌≢◌, ◌<◌, ◌↔◌, ℕ, Bool, List, IfErr, IfNone, IfOk, IfSome, IsTrue, length, slice_index};
+ghost use Rattle.std.specs.Prelude.{◌≡◌, ◌≢◌, ◌<◌, ◌↔◌, ℕ, Bool, false, List, IfErr, IfNone, IfOk, IfSome, IsTrue, length, slice_index};
 ghost use Rattle.std.specs.List.Sorted.{IsStrictlyIncreasing};
 ghost use Rattle.ts_adjacency.specs.Adjacency.{IsWhole};
 ghost use Rattle.ts_adjacency.specs.Rows.{IsClosed, row_count, row_of};
@@ -8,19 +8,19 @@ ghost use Rattle.ts_bits.specs.BitArray.{BitsSay, SayOnly};
 ghost use Rattle.ts_bits.specs.Rank.{ones};
 ghost use Rattle.ts_log.specs.LogArray.{LogSays, LogSaysOnly};
 ghost use Rattle.ts_plane.specs.Fits.{ContinuesRow};
-ghost use Rattle.ts_plane.specs.Objects.{AreTurned, EachHasEdge, EachStands, HasEdge, IsObjectsFault, KeepsObjects, RisesThere, Stands, with_objects};
+ghost use Rattle.ts_plane.specs.Objects.{AreTurned, EachHasEdge, EachShown, EachStands, HasEdge, IsObjectsError, IsObjectsOr, IsShown, KeepsObjects, RisesThere, Stands, with_objects};
 ghost use Rattle.ts_plane.specs.Rules.{IsBounded, RisesInRows};
-ghost use Rattle.ts_plane.specs.Turned.{rising_of};
 
+use crate::error::OpenError;
 use crate::rising::{open_ends, rises};
 use ts_adjacency::AdjacencyView;
 use ts_bits::BitView;
 use ts_log::LogView;
 
-/// The objects and the places of each object's pairs, where the three sections keep their rules, or the
-/// number of the first that does not. The last two sections are taken as hints: where each place of theirs
+/// The objects and the places of each object's pairs, where the three sections keep their rules, or which
+/// of them is the first that does not. The last two sections are taken as hints: where each place of theirs
 /// has its pair and its object among the triples, and there are as many places as triples, all is said.
-/// Only where that fails the objects are looked for one by one.
+/// Where that fails, the hints that hold may still show each object.
 pub(crate) fn open_objects<'a>(
     objects: &'a [u8],
     ends: &'a [u8],
@@ -28,34 +28,114 @@ pub(crate) fn open_objects<'a>(
     triples: &AdjacencyView<'a>,
     rights: &LogView<'a>,
     terms: u64,
-) -> Result<(LogView<'a>, AdjacencyView<'a>), u8>
+) -> Result<(LogView<'a>, AdjacencyView<'a>), OpenError>
     requires whole { IsWhole triples.now }
     requires rights { rights.now ≡ triples.now.rights }
     requires rising { RisesInRows triples.now.ends triples.now.rights }
     requires bounded { IsBounded terms triples.now.rights }
     ensures keep { IfOk result (λ found.
         KeepsObjects objects.now ends.now pairs.now (with_objects triples.now found.0 found.1) 8) }
-    ensures fault { IfErr result (IsObjectsFault objects.now ends.now pairs.now triples.now) }
+    ensures fault { IfErr result (IsObjectsError objects.now ends.now pairs.now triples.now) }
 {
     let Some(list) = LogView::open(objects) else {
-        return Err(5);
-    };
-    let Some(rows) = open_rows(ends, list.len(), triples.len()) else {
-        if are_objects(&list, rights, terms) {
-            return Err(6);
-        }
-        return Err(5);
+        return Err(OpenError::Fault(5));
     };
     if !rises(&list, terms) {
-        return Err(5);
+        return Err(OpenError::Fault(5));
     }
+    let Some(rows) = open_rows(ends, list.len(), triples.len()) else {
+        return Err(objects_or(&list, rights, false, 6));
+    };
     let Some(found) = open_turned(&list, &rows, pairs, triples, rights) else {
-        if are_objects(&list, rights, terms) {
-            return Err(7);
-        }
-        return Err(5);
+        let shown = show_each(&list, &rows, pairs, triples, rights);
+        return Err(objects_or(&list, rights, shown, 7));
     };
     Ok((list, found))
+}
+
+/// Section 5 where the objects are not those of the triples, and else section `later`, as far as it is told
+/// without marks. `shown` says that each object is known to be that of a triple.
+fn objects_or(objects: &LogView, rights: &LogView, shown: bool, later: u8) -> OpenError
+    requires increasing { IsStrictlyIncreasing objects.now }
+    requires stand { IsTrue shown → EachStands rights.now objects.now }
+    ensures { IsObjectsOr objects.now rights.now shown later result }
+{
+    if !all_found(rights, objects) {
+        OpenError::Fault(5)
+    } else if shown {
+        OpenError::Fault(later)
+    } else {
+        OpenError::Unmarked(later)
+    }
+}
+
+/// Whether the rows, with the numbers that these bytes are to say at their places, show each object.
+fn show_each<'a>(
+    objects: &LogView,
+    ends: &BitView<'a>,
+    bytes: &'a [u8],
+    triples: &AdjacencyView,
+    rights: &LogView,
+) -> bool
+    requires counted { ones ends.now ≡ length objects.now }
+    requires closed { IsClosed ends.now }
+    requires whole { IsWhole triples.now }
+    requires rights { rights.now ≡ triples.now.rights }
+    requires rising { RisesInRows triples.now.ends triples.now.rights }
+    ensures stand { IsTrue result → EachStands triples.now.rights objects.now }
+    ensures hidden { result ≡ false → (numbers : List ℕ) → LogSays bytes.now numbers → length ends.now ≡ length numbers
+        → ¬ EachShown objects.now (record { ends = ends.now; rights = numbers }) triples.now }
+{
+    let Some(found) = open_pairs(ends, bytes) else {
+        return false;
+    };
+    each_shown(objects, &found, triples, rights)
+}
+
+/// Whether each row shows its object.
+fn each_shown(
+    objects: &LogView,
+    by_object: &AdjacencyView,
+    triples: &AdjacencyView,
+    rights: &LogView,
+) -> bool
+    requires counted { row_count by_object.now.ends ≡ length objects.now }
+    requires whole { IsWhole triples.now }
+    requires rights { rights.now ≡ triples.now.rights }
+    requires rising { RisesInRows triples.now.ends triples.now.rights }
+    ensures { IsTrue result ↔ EachShown objects.now by_object.now triples.now }
+{
+    for i in 0..objects.len() {
+        if !is_shown(objects, by_object, triples, rights, i) {
+            return false;
+        }
+    }
+    true
+}
+
+/// Whether the row shows its object.
+fn is_shown(
+    objects: &LogView,
+    by_object: &AdjacencyView,
+    triples: &AdjacencyView,
+    rights: &LogView,
+    i: u64,
+) -> bool
+    requires within { i < length objects.now }
+    requires counted { row_count by_object.now.ends ≡ length objects.now }
+    requires whole { IsWhole triples.now }
+    requires rights { rights.now ≡ triples.now.rights }
+    requires rising { RisesInRows triples.now.ends triples.now.rights }
+    ensures { IsTrue result ↔ IsShown objects.now by_object.now triples.now i }
+{
+    let x = objects.get(i);
+    let (first, after) = by_object.row(i);
+    for j in first..after {
+        if has_edge(triples, rights, by_object.right(j), x) {
+            return true;
+        }
+    }
+    false
 }
 
 /// The numbers at the places of these rows, where they say the pairs of each object.
@@ -189,44 +269,6 @@ fn has_edge(triples: &AdjacencyView, rights: &LogView, q: u64, x: u64) -> bool
     }
     let (first, after) = triples.row(q);
     rights.find_sorted(first, after, x).is_some()
-}
-
-/// Whether these are the numbers of the triples' right sides, each once, rising.
-fn are_objects(objects: &LogView, rights: &LogView, terms: u64) -> bool
-    requires { IsBounded terms rights.now }
-    ensures { IsTrue result ↔ (objects.now ≡ rising_of rights.now) }
-{
-    if !rises(objects, terms) {
-        return false;
-    }
-    if !all_among(objects, rights) {
-        return false;
-    }
-    all_found(rights, objects)
-}
-
-/// Whether each number stands among the others, which are gone over for each.
-fn all_among(numbers: &LogView, others: &LogView) -> bool
-    ensures { IsTrue result ↔ EachStands others.now numbers.now }
-{
-    for j in 0..numbers.len() {
-        if !is_among(numbers.get(j), others) {
-            return false;
-        }
-    }
-    true
-}
-
-/// Whether the number stands among the others.
-fn is_among(x: u64, others: &LogView) -> bool
-    ensures { IsTrue result ↔ Stands others.now x }
-{
-    for j in 0..others.len() {
-        if others.get(j) == x {
-            return true;
-        }
-    }
-    false
 }
 
 /// Whether each number stands among the others, which rise.

@@ -7,8 +7,10 @@ ghost use Rattle.ts_log.specs.LogArray.{LogSays, LogSaysOnly};
 ghost use Rattle.ts_wavelet.specs.WaveletTree.{SayOnly, WaveletSays};
 ghost use Rattle.ts_plane.specs.Plane.{cut};
 ghost use Rattle.ts_plane.specs.Read.{parts_in};
-ghost use Rattle.ts_plane.specs.Rules.{IsBounded, IsFirstFault, KeepsBefore, RisesInRows};
+ghost use Rattle.ts_plane.specs.Rules.{IsBounded, KeepsBefore, RisesInRows};
+ghost use Rattle.ts_plane.specs.Unmarked.{IsOpenError};
 
+use crate::error::OpenError;
 use crate::objects::open_objects;
 use crate::rising::{open_ends, rises, rises_in_rows, tree_rises_in_rows};
 use crate::sections::Sections;
@@ -17,33 +19,33 @@ use ts_bits::BitView;
 use ts_log::LogView;
 use ts_wavelet::WaveletView;
 
-/// The sections at these places, each its start and its length, where all keep their rules, or the number
-/// of the first that does not.
+/// The sections at these places, each its start and its length, where all keep their rules, or which is the
+/// first that does not.
 pub(crate) fn open_sections<'a>(
     file: &'a [u8],
     places: &[(u64, u64); 8],
     terms: u64,
     predicates: u64,
-) -> Result<Sections<'a>, u8>
+) -> Result<Sections<'a>, OpenError>
     requires { All (λ place. place.0 + place.1 ≤ length file.now) places.now }
     ensures keep { IfOk result (λ s. KeepsBefore (cut file.now places.now) terms predicates (parts_in s) 8) }
-    ensures fault { IfErr result (IsFirstFault (cut file.now places.now) terms predicates) }
+    ensures fault { IfErr result (IsOpenError (cut file.now places.now) terms predicates) }
 {
     let Some(subjects) = open_subjects(bytes_at(file, places[0]), terms) else {
-        return Err(0);
+        return Err(OpenError::Fault(0));
     };
     let Some(pair_ends) = open_ends(bytes_at(file, places[1]), subjects.len()) else {
-        return Err(1);
+        return Err(OpenError::Fault(1));
     };
     let pairs = RowsView::of_checked(pair_ends);
     let Some(symbols) = open_predicates(bytes_at(file, places[2]), &pairs, predicates) else {
-        return Err(2);
+        return Err(OpenError::Fault(2));
     };
     let Some(object_ends) = open_ends(bytes_at(file, places[3]), pairs.len()) else {
-        return Err(3);
+        return Err(OpenError::Fault(3));
     };
     let Some(rights) = open_pair_objects(bytes_at(file, places[4]), &object_ends, terms) else {
-        return Err(4);
+        return Err(OpenError::Fault(4));
     };
     let triples = AdjacencyView::of_checked(object_ends, rights.copy());
     let (objects, by_object) = open_objects(

@@ -3,7 +3,7 @@
 ghost use Rattle.ts_plane.specs.Triple.{IsPlaneList};
 
 use crate::samples::{EMPTY, EMPTY_PLACES, ONE, PLACES, SEVEN, TRIPLES, TWO};
-use crate::{IdTriple, PlaneView, write_plane};
+use crate::{IdTriple, OpenError, PlaneView, write_plane};
 use std::alloc::{AllocError, Global};
 use std::test::Fail;
 
@@ -31,8 +31,17 @@ fn writes_planes(rt: HostRuntime) -> Result<(), Fail> {
 }
 
 /// How many triples the plane in this file has, or which section is at fault.
-fn opened(file: &[u8; 232], terms: u64, predicates: u64) -> Result<u64, u8> {
-    PlaneView::open(file, &PLACES, terms, predicates).map(|view| view.len())
+fn opened(alloc: Global, file: &[u8; 232], terms: u64, predicates: u64) -> Result<u64, u8> {
+    match PlaneView::open(file, &PLACES, terms, predicates) {
+        Ok(view) => Ok(view.len()),
+        Err(OpenError::Fault(fault)) => Err(fault),
+        Err(OpenError::Unmarked(later)) => {
+            match PlaneView::fault_by_marks(alloc, file, &PLACES, terms, predicates, later) {
+                Ok(fault) => Err(fault),
+                Err(_) => Err(u8::MAX),
+            }
+        }
+    }
 }
 
 #[test]
@@ -51,7 +60,7 @@ fn opens_planes_within_the_bounds(rt: HostRuntime) {
         (&SEVEN, 4, 3, Err(4)),
         (&SEVEN, 5, 2, Err(2)),
     ] {
-        assert_eq!(rt; opened(file, terms, predicates), found);
+        assert_eq!(rt; opened(rt.alloc(), file, terms, predicates), found);
     }
 }
 
@@ -146,16 +155,28 @@ fn changed(file: &[u8; 232], changes: Changes) -> [u8; 232] {
 #[test]
 fn names_the_first_section_at_fault(rt: HostRuntime) {
     for (changes, fault) in TWO_FAULTS.iter() {
-        assert_eq!(rt; opened(&changed(&TWO, changes), 5, 1), Err(*fault));
+        assert_eq!(rt;
+            opened(rt.alloc(), &changed(&TWO, changes), 5, 1),
+            Err(*fault)
+        );
     }
     for (changes, fault) in SEVEN_FAULTS.iter() {
-        assert_eq!(rt; opened(&changed(&SEVEN, changes), 5, 3), Err(*fault));
+        assert_eq!(rt;
+            opened(rt.alloc(), &changed(&SEVEN, changes), 5, 3),
+            Err(*fault)
+        );
     }
 }
 
 #[test]
 fn names_the_fault_of_one_triple(rt: HostRuntime) {
     // Pair ends with a bit behind the last, and object 1 with a width of 2.
-    assert_eq!(rt; opened(&changed(&ONE, &[(39, 0x01)]), 2, 1), Err(1));
-    assert_eq!(rt; opened(&changed(&ONE, &[(144, 0x40)]), 2, 1), Err(4));
+    assert_eq!(rt;
+        opened(rt.alloc(), &changed(&ONE, &[(39, 0x01)]), 2, 1),
+        Err(1)
+    );
+    assert_eq!(rt;
+        opened(rt.alloc(), &changed(&ONE, &[(144, 0x40)]), 2, 1),
+        Err(4)
+    );
 }

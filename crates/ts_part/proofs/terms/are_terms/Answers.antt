@@ -7,11 +7,11 @@ use Rattle.ts_front.specs.Pieces.{pieces_of}
 use Rattle.ts_front.specs.Shared.{text_at}
 use Rattle.ts_front.proofs.IterLemmas.{length-pieces_of}
 use Rattle.ts_model.specs.Limits.{term_limit}
-use Rattle.ts_part.proofs.TermLemmas.{IsTermOf, all_terms, made_text, not_all, one_term, piece_turn, too_long}
+use Rattle.ts_part.proofs.TermLemmas.{IsTermOf, all_terms, err_since, made_text, not_all, one_term, piece_turn, too_long}
 use Rattle.ts_part.proofs.terms.are_terms.Goals as goal
 
-pub returns-then-piece-len : goal.returns-then-piece-len
-returns-then-piece-len c =
+pub returns-then-piece-len-clause-terms : goal.returns-then-piece-len-clause-terms
+returns-then-piece-len-clause-terms c =
     let kind = c.args.kind in
     let texts = c.args.texts.now in
     let old = c.loop-piece.text.items in
@@ -28,8 +28,8 @@ returns-then-piece-len c =
       λ all. absurd (not_all kind texts (length c.loop-piece.yielded) (take piece.shared old ++ piece.suffix.now) is.low made none all),
     )
 
-pub returns-then-not-is_canonical : goal.returns-then-not-is_canonical
-returns-then-not-is_canonical c =
+pub returns-then-not-is_canonical-clause-terms : goal.returns-then-not-is_canonical-clause-terms
+returns-then-not-is_canonical-clause-terms c =
     let kind = c.args.kind in
     let texts = c.args.texts.now in
     let old = c.loop-piece.text.items in
@@ -64,11 +64,18 @@ loop-piece-preserved c =
     one_term kind texts (length c.loop-piece.yielded) (length (c.loop-piece.yielded ++ c.in-Some.piece ∷ [])) old c.extend_from_slice.new.self.items
     c.loop-piece.invariant text_is term (length_push c.loop-piece.yielded c.in-Some.piece)
 
-pub returns : goal.returns
-returns c =
+pub returns-clause-terms : goal.returns-clause-terms
+returns-clause-terms c =
     let road = YieldsList-from_first (λ (p : Piece). (p.shared, p.suffix.now)) (λ pieces. pieces) (pieces_of c.args.texts.now) cc in
     let end = YieldsList-end road c.loop-piece.yielded _ c.loop-piece.yielded_by _ _ c.in-None.is c.next.ensures.steps in (
       λ _. all_terms c.args.kind c.args.texts.now (length c.loop-piece.yielded) c.loop-piece.text.items c.loop-piece.invariant
           (omega (arith, end.1, length-pieces_of c.args.texts.now)),
       λ _. refl,
     )
+
+pub returns-in_err-extend_from_slice-clause-memory : goal.returns-in_err-extend_from_slice-clause-memory
+returns-in_err-extend_from_slice-clause-memory c =
+    let road = YieldsList-from_first (λ (p : Piece). (p.shared, p.suffix.now)) (λ pieces. pieces) (pieces_of c.args.texts.now) cc in
+    let turn = YieldsList-turn road c.loop-piece.yielded _ c.loop-piece.yielded_by _ _ c.in-Some.piece c.in-Some.is c.next.ensures.steps in
+    let is = piece_turn c.args.texts.now (length c.loop-piece.yielded) c.in-Some.piece.shared c.in-Some.piece.suffix.now _ turn in
+    err_since c.from_residual.result (omega (arith, is.low))

@@ -16,4 +16,4 @@ returns-then-len-count-clause-some c =
 pub returns-else-branch-clause-some : goal.returns-else-branch-clause-some
 returns-else-branch-clause-some c =
     other_dictionary c.args.kind c.args.count c.args.starts.now c.args.bytes.now c.in-Some.texts c.in-Some.ensures.some c.in-Some.ensures.only
-    (λ e all. (let found : IsTrue c.in_ok-are_terms.field-0 = c.in_ok-are_terms.ensures.1 all in let wrong : IsTrue false = cc in false≢true wrong))
+    (λ e all. (let found : IsTrue c.in_ok-are_terms.field-0 = c.in_ok-are_terms.ensures.terms.1 all in let wrong : IsTrue false = cc in false≢true wrong))

@@ -5,13 +5,13 @@ use Rattle.ts_bits.specs.BitArray.{BitsSay}
 use Rattle.ts_bits.specs.Rank.{ones}
 use Rattle.ts_log.specs.LogArray.{LogSays}
 use Rattle.ts_wavelet.specs.WaveletTree.{WaveletSays}
-use Rattle.ts_plane.specs.Objects.{IsObjectsFault, KeepsObjects, with_objects}
+use Rattle.ts_plane.specs.Objects.{IsObjectsError, KeepsObjects, with_objects}
 use Rattle.ts_plane.specs.Parts.{PlaneParts}
 use Rattle.ts_plane.specs.Plane.{cut}
 use Rattle.ts_plane.specs.Rules.{section, IsBounded, RisesInRows}
 use Rattle.ts_plane.proofs.FirstFaults.{KeepsFront}
 use Rattle.ts_plane.proofs.Hints.{none_at}
-use Rattle.ts_plane.proofs.SectionFaults.{section_at, subjects_fault, pair_ends_fault, pair_predicates_fault, object_ends_fault, pair_objects_fault, objects_fault, all_keep}
+use Rattle.ts_plane.proofs.SectionFaults.{section_at, subjects_fault, pair_ends_fault, pair_predicates_fault, object_ends_fault, pair_objects_fault, objects_error, all_keep}
 use Rattle.ts_plane.proofs.open.open_sections.Goals as goal
 
 pub returns-in_default-clause-fault : goal.returns-in_default-clause-fault
@@ -109,12 +109,13 @@ returns-in_err-objects-clause-fault c =
       object_ends = λ h. record { says = subst (BitsSay (section (cut c.args.file.now c.args.places.now) 3)) (sym ends_are) (subst (λ b. BitsSay b c.in-Some-open_ends-2.object_ends) (sym at3) c.in-Some-open_ends-2.ensures.says); counted = ap ones ends_are ∙ c.in-Some-open_ends-2.ensures.counted ∙ c.len-2.ensures.counted; closed = subst IsClosed (sym ends_are) c.in-Some-open_ends-2.ensures.closed };
       pair_objects = λ h. record { says = subst (LogSays (section (cut c.args.file.now c.args.places.now) 4)) (sym rights_are) (subst (λ b. LogSays b c.in-Some-open_pair_objects.rights) (sym at4) c.in-Some-open_pair_objects.ensures.says); counted = ap length rights_are ∙ c.in-Some-open_pair_objects.ensures.counted ∙ ap length (sym ends_are); rising = subst (RisesInRows c.of_checked-triples.result.ends) (sym rights_are) (subst (λ ends. RisesInRows ends c.in-Some-open_pair_objects.rights) (sym ends_are) c.in-Some-open_pair_objects.ensures.rising); bounded = subst (IsBounded c.args.terms) (sym rights_are) c.in-Some-open_pair_objects.ensures.bounded };
     } in
-    let fault : IsObjectsFault (section (cut c.args.file.now c.args.places.now) 5) (section (cut c.args.file.now c.args.places.now) 6) (section (cut c.args.file.now c.args.places.now) 7) c.of_checked-triples.result c.in_err-objects.field-0.0 =
-    subst (λ b. IsObjectsFault b (section (cut c.args.file.now c.args.places.now) 6) (section (cut c.args.file.now c.args.places.now) 7) c.of_checked-triples.result c.in_err-objects.field-0.0) (sym at5)
-    (subst (λ b. IsObjectsFault c.bytes_at-6.result.now b (section (cut c.args.file.now c.args.places.now) 7) c.of_checked-triples.result c.in_err-objects.field-0.0) (sym at6)
-    (subst (λ b. IsObjectsFault c.bytes_at-6.result.now c.bytes_at-7.result.now b c.of_checked-triples.result c.in_err-objects.field-0.0) (sym at7) c.in_err-objects.ensures.fault)) in
+    let error = c.in_err-objects.field-0.0 in
+    let fault : IsObjectsError (section (cut c.args.file.now c.args.places.now) 5) (section (cut c.args.file.now c.args.places.now) 6) (section (cut c.args.file.now c.args.places.now) 7) c.of_checked-triples.result error =
+    subst (λ b. IsObjectsError b (section (cut c.args.file.now c.args.places.now) 6) (section (cut c.args.file.now c.args.places.now) 7) c.of_checked-triples.result error) (sym at5)
+    (subst (λ b. IsObjectsError c.bytes_at-6.result.now b (section (cut c.args.file.now c.args.places.now) 7) c.of_checked-triples.result error) (sym at6)
+    (subst (λ b. IsObjectsError c.bytes_at-6.result.now c.bytes_at-7.result.now b c.of_checked-triples.result error) (sym at7) c.in_err-objects.ensures.fault)) in
     let p = err_from_is_err_and c.from_residual.result c.from_residual.ensures.1 in
-    rw (p.1, p.2) (objects_fault (cut c.args.file.now c.args.places.now) c.args.terms c.args.predicates parts _ front fault)
+    rw (p.1, p.2) (objects_error (cut c.args.file.now c.args.places.now) c.args.terms c.args.predicates parts _ front fault)
 
 pub returns-clause-keep : goal.returns-clause-keep
 returns-clause-keep c =
