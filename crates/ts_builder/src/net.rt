@@ -113,11 +113,10 @@ fn is_held(parent: Option<&Chain>, triple: &Triple) -> bool
     ensures held { IsTrue result ↔ Holds (parts_or_none (option_map (λ chain. chain.now) parent.entry)) triple.now }
     ensures kinds { IsTriple triple.now }
 {
-    let subject = triple.subject().spelling();
-    let predicate = triple.predicate().spelling();
-    let object = triple.object().spelling();
+    // What a triple keeps is known once a term of it is read.
+    let _subject = triple.subject();
     match parent {
-        Some(chain) => chain.holds(subject, predicate, object),
+        Some(chain) => chain.has_triple(triple),
         None => false,
     }
 }

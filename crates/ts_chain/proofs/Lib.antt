@@ -1,3 +1,4 @@
+pub mod AskedKinds
 pub mod ContentSize
 mod Decided
 pub mod Deciding
@@ -18,6 +19,9 @@ pub mod Naming
 pub mod Narrowing
 pub mod NewLists
 mod NumberRanges
+pub mod OneHistory
+pub mod OneName
+pub mod RemovedTriples
 pub mod OneNumber
 mod PairLemmas
 pub mod Ranges
@@ -26,6 +30,7 @@ pub mod Seeking
 pub mod SelectedAtLayers
 mod SortedTerms
 mod SpelledLists
+pub mod SpelledTriples
 pub mod StepsContent
 pub mod StepsLink
 pub mod Strangers
@@ -35,3 +40,4 @@ pub mod TripleCounts
 pub mod Turns
 mod WalkBounds
 mod WalkedLemmas
+pub mod WalksAnew

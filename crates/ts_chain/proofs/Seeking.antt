@@ -6,6 +6,8 @@ use Rattle.std.proofs.lemmas.List.Elements.{All-cons, All-head, All-tail}
 use Rattle.ts_model.specs.TextTerm.{TextTerm}
 use Rattle.ts_model.specs.History.{History}
 use Rattle.ts_part.specs.Facts.{Facts}
+use Rattle.ts_chain.specs.declared.numbered.Numbered.{Numbered}
+use Rattle.ts_chain.specs.Patterns.{IsAskedIn}
 use Rattle.ts_chain.specs.Ids.{HasId, HasNew, IsIdAt, Lacks, LacksNew}
 use Rattle.ts_chain.specs.Stands.{StandsFor}
 use Rattle.ts_chain.proofs.IdsAtLayers.{id_at, lacks_at}
@@ -54,3 +56,11 @@ module _ (parts : List Facts) (term : TextTerm) where
 pub if_none : {X : Type 0} (found : Option X) (P : Type 0) → P → IfNone found P
 if_none None P h = h
 if_none (Some x) P h = tt
+
+-- a term that the chain lacks has no number in its place
+pub unasked : (numbered : Numbered) (parts : List Facts) (given : Option TextTerm) (term : TextTerm) → given ≡ Some term → Lacks parts term → (id : Option ℕ) → ¬ IsAskedIn numbered parts given id
+unasked numbered parts given term is lacks id asked = by id (subst (λ (given : Option TextTerm). IsAskedIn numbered parts given id) is asked)
+  where
+    by : (id : Option ℕ) → IsAskedIn numbered parts (Some term) id → ⊥
+    by None none = none
+    by (Some id) has = lacks_id parts term id lacks has.1

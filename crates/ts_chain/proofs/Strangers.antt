@@ -29,7 +29,7 @@ use Rattle.ts_chain.proofs.SelectedAtLayers.{other_than}
 
 -- ---- what a chain names
 
-term_named : (history : History) (k : ℕ) (parts : List Facts) (term : TextTerm) → StandsFor parts history k → IsTermAt history (Some k) term → term.kind ≢ Predicate
+pub term_named : (history : History) (k : ℕ) (parts : List Facts) (term : TextTerm) → StandsFor parts history k → IsTermAt history (Some k) term → term.kind ≢ Predicate
     → NamesTerm parts (number_of history k term) term
 term_named history k parts term stands there other =
     let id = number_of history k term in
@@ -43,23 +43,26 @@ term_named history k parts term stands there other =
       ];
     }
 
-predicate_named : (history : History) (k : ℕ) (parts : List Facts) (term : TextTerm) → StandsFor parts history k → IsTermAt history (Some k) term → term.kind ≡ Predicate
+pub predicate_named : (history : History) (k : ℕ) (parts : List Facts) (term : TextTerm) → StandsFor parts history k → IsTermAt history (Some k) term → term.kind ≡ Predicate
     → NamesPredicate parts (number_of history k term) term
 predicate_named history k parts term stands there is =
     let id = number_of history k term in
     let found = named_in history stands.kept term id parts (has_id_at history k parts term stands there) in
     record { part = found.0; among = found.1; has = subst (λ kind. HasOfKind kind found.0 id term) is found.2 }
 
-pub content_named : (history : History) (k : ℕ) (parts : List Facts) (triple : TextTriple) → StandsFor parts history k → contains (content_at history k) triple ≡ true
+-- a triple whose terms a layer has
+pub triple_named : (history : History) (k : ℕ) (parts : List Facts) (triple : TextTriple) → StandsFor parts history k → IsTripleAt history (Some k) triple
     → IsSpelledBy parts (id_triple history k triple) triple
 unfolding id_triple
-content_named history k parts triple stands there =
-    let terms = content_terms history stands.kept (Some k) triple there in
-    record {
-      subject = term_named history k parts triple.subject stands terms.subject (node_or_value triple.subject.kind (inl terms.is.0.0));
-      predicate = predicate_named history k parts triple.predicate stands terms.predicate terms.is.0.1;
-      object = term_named history k parts triple.object stands terms.object (node_or_value triple.object.kind terms.is.0.2);
-    }
+triple_named history k parts triple stands terms = record {
+  subject = term_named history k parts triple.subject stands terms.subject (node_or_value triple.subject.kind (inl terms.is.0.0));
+  predicate = predicate_named history k parts triple.predicate stands terms.predicate terms.is.0.1;
+  object = term_named history k parts triple.object stands terms.object (node_or_value triple.object.kind terms.is.0.2);
+}
+
+pub content_named : (history : History) (k : ℕ) (parts : List Facts) (triple : TextTriple) → StandsFor parts history k → contains (content_at history k) triple ≡ true
+    → IsSpelledBy parts (id_triple history k triple) triple
+content_named history k parts triple stands there = triple_named history k parts triple stands (content_terms history stands.kept (Some k) triple there)
 
 -- a number names one term
 pub one_term : (history : History) (k : ℕ) (parts : List Facts) (id : ℕ) (a b : TextTerm) → StandsFor parts history k → NamesTerm parts id a → NamesTerm parts id b → a ≡ b
@@ -99,9 +102,16 @@ fits_not true true true (inl e) = e
 fits_not true true true (inr (inl e)) = e
 fits_not true true true (inr (inr e)) = e
 
+pub nothing_fits : (history : History) (k : ℕ) (wanted : Pattern) → IsWellKept history → ((q : TextTriple) → IsTripleAt history (Some k) q → fits wanted q ≡ false) → select history k wanted ≡ []
+nothing_fits history k wanted kept none =
+    none_pass (fits wanted) (listing history k)
+    (each_among (birth_cmp history k) (birth_cmp_total history k) (λ q. fits wanted q ≡ false) (listing history k) (λ q among.
+    let place = place_of (birth_cmp history k) (birth_cmp_total history k) (birth_cmp-IsAntisymmetric history k) (listing history k) q among in
+    none q (content_terms history kept (Some k) q (in_set history kept k (content_at history k) place.0 q place.1))))
+
 pub strangers : (history : History) (k : ℕ) (wanted : Pattern) (term : TextTerm) → IsWellKept history → ¬ IsTermAt history (Some k) term
     → (wanted.subject ≡ Some term) ⊎ ((wanted.predicate ≡ Some term) ⊎ (wanted.object ≡ Some term)) → select history k wanted ≡ []
-strangers history k wanted term kept strange asked = none_pass (fits wanted) (listing history k) each
+strangers history k wanted term kept strange asked = nothing_fits history k wanted kept one
   where
     one : (q : TextTriple) → IsTripleAt history (Some k) q → fits wanted q ≡ false
     one q there = fits_not (term_fits wanted.subject q.subject) (term_fits wanted.predicate q.predicate) (term_fits wanted.object q.object) (by asked)
@@ -111,12 +121,6 @@ strangers history k wanted term kept strange asked = none_pass (fits wanted) (li
         by (inl is) = inl (differs history k wanted.subject term q.subject is strange there.subject)
         by (inr (inl is)) = inr (inl (differs history k wanted.predicate term q.predicate is strange there.predicate))
         by (inr (inr is)) = inr (inr (differs history k wanted.object term q.object is strange there.object))
-
-    each : AllByRecursion (λ q. fits wanted q ≡ false) (listing history k)
-    each =
-        each_among (birth_cmp history k) (birth_cmp_total history k) (λ q. fits wanted q ≡ false) (listing history k) (λ q among.
-        let place = place_of (birth_cmp history k) (birth_cmp_total history k) (birth_cmp-IsAntisymmetric history k) (listing history k) q among in
-        one q (content_terms history kept (Some k) q (in_set history kept k (content_at history k) place.0 q place.1)))
 
 -- ---- the layer
 

@@ -25,7 +25,7 @@ use Rattle.ts_chain.proofs.Decided.{Above, Said, decided-rises, equal_is, first,
 
 -- ---- what lists have
 
-same_triple : (t other : IdTriple) → eq_by_cmp triple_cmp t other ≡ true → t ≡ other
+pub same_triple : (t other : IdTriple) → eq_by_cmp triple_cmp t other ≡ true → t ≡ other
 same_triple t other e = triple_cmp-IsAntisymmetric t other (equal_is _ e)
 
 pub has-filter : (p : IdTriple → Bool) (triples : List IdTriple) (t : IdTriple) → has (filter p triples) t ≡ (p t && has triples t)

@@ -13,3 +13,5 @@ pub mod Views
 pub mod Begins
 pub mod Spelled
 pub mod Entries
+pub mod Fetches
+pub mod Laws

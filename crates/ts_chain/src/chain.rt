@@ -1,13 +1,15 @@
 //! A chain of parts.
 
-ghost use Rattle.std.specs.Prelude.{◌≡◌, ◌+◌, ◌-◌, ◌<◌, ◌≤◌, ◌↔◌, ◌++◌, ℕ, All, IfNone, IfOk, IfSome, IsTrue, OnOk, Some, map};
+ghost use Rattle.std.specs.Prelude.{◌≡◌, ◌+◌, ◌-◌, ◌<◌, ◌≤◌, ◌↔◌, ◌++◌, ℕ, [], All, Contains, IfNone, IfOk, IfSome, IsTrue, OnOk, Option, Some, map};
 ghost use Rattle.ts_log.specs.Buffer.{Extends};
 ghost use Rattle.ts_model.specs.declared.pattern.Pattern.{Pattern};
 ghost use Rattle.ts_model.specs.declared.term.TermKind.TheVariants.{Node, Predicate, Value};
 ghost use Rattle.ts_model.specs.History.{History, content_at};
 ghost use Rattle.ts_model.specs.Limits.{number_limit};
+ghost use Rattle.ts_model.specs.Listing.{select};
 ghost use Rattle.ts_model.specs.Sets.{contains, size};
 ghost use Rattle.ts_model.specs.TextTerm.{TextTerm};
+ghost use Rattle.ts_plane.specs.declared.pattern.IdPattern.{IdPattern};
 ghost use Rattle.ts_plane.specs.declared.triple.IdTriple.{IdTriple};
 ghost use Rattle.ts_part.specs.Numbers.{id_triples, totals_at};
 ghost use Rattle.ts_part.specs.Rules.{KeepsRules};
@@ -17,7 +19,7 @@ ghost use Rattle.ts_chain.specs.Holds.{HasIds, Holds, object_kind, spelled_tripl
 ghost use Rattle.ts_chain.specs.Ids.{HasId, HasNew, IsIdAt, Lacks, LacksNew};
 ghost use Rattle.ts_chain.specs.Named.{name_of};
 ghost use Rattle.ts_chain.specs.Numbered.{IsPartOf, IsPlaceOf, total_in};
-ghost use Rattle.ts_chain.specs.Patterns.{IsPatternBy};
+ghost use Rattle.ts_chain.specs.Patterns.{IsAskedIn, IsPatternBy, IsPatternIn};
 ghost use Rattle.ts_chain.specs.Stands.{StandsFor};
 ghost use Rattle.ts_chain.specs.Views.{Appends, AreTriplesOf, IsNodeId, IsNodeOf, IsPredicateId, IsPredicateOf, IsTermId, IsTermOf, NamesPredicate, NamesTerm};
 ghost use Rattle.ts_chain.specs.Walks.{selected, walked};
@@ -28,7 +30,7 @@ use crate::walk::ChainWalk;
 use std::alloc::{AllocError, Global};
 use std::marker::Model;
 use std::rc::Rc;
-use ts_model::TermKind;
+use ts_model::{Pattern, Term, TermKind, Triple};
 use ts_part::{Header, Part};
 use ts_plane::{IdPattern, IdTriple};
 
@@ -190,6 +192,18 @@ impl Chain {
         }
     }
 
+    /// Whether the triple stands.
+    pub fn has_triple(&self, triple: &Triple) -> bool
+        ensures stands { IsTrue result ↔ Holds self.now triple.now }
+        ensures content { (history : History) (k : ℕ) → StandsFor self.now history k
+            → result ≡ contains (content_at history k) triple.now }
+    {
+        let subject = triple.subject().spelling();
+        let predicate = triple.predicate().spelling();
+        let object = triple.object().spelling();
+        self.holds(subject, predicate, object)
+    }
+
     /// The numbers of three terms, and `None` where a term has none.
     fn ids_of(&self, s: &[u8], p: &[u8], o: &[u8]) -> Option<IdTriple>
         ensures some { IfSome result (HasIds self.now (spelled_triple s.now p.now o.now)) }
@@ -200,6 +214,15 @@ impl Chain {
         let p = self.id_of(TermKind::Predicate, p)?;
         let o = self.id_of(object_kind(o), o)?;
         Some(IdTriple { s, p, o })
+    }
+
+    /// Whether the triple of these numbers stands. It takes no memory.
+    pub fn has(&self, t: IdTriple) -> bool
+        ensures stands { result ≡ stands_in self.now t }
+        ensures content { (history : History) (k : ℕ) → StandsFor self.now history k
+            → IsTrue result ↔ Contains (id_triples history k (content_at history k)) t }
+    {
+        self.stands(t)
     }
 
     /// Whether the triple of these numbers stands: the newest part that names it decides.
@@ -215,6 +238,37 @@ impl Chain {
             }
         }
         false
+    }
+
+    /// The numbers of a pattern's terms, and `None` where the chain lacks one of them, or one is of a kind that
+    /// stands nowhere in its place: then no triple fits.
+    pub fn pattern(&self, pattern: &Pattern) -> Option<IdPattern>
+        ensures numbers { IfSome result (IsPatternIn self.now pattern.now) }
+        ensures none { IfNone result ((ids : IdPattern) → ¬ IsPatternIn self.now pattern.now ids) }
+        ensures selected { (history : History) (k : ℕ) → StandsFor self.now history k
+            → IfSome result (λ ids. (after : Option IdTriple) → walked self.now ids after ≡ selected history k pattern.now after) }
+        ensures nothing { (history : History) (k : ℕ) → StandsFor self.now history k
+            → IfNone result (select history k pattern.now ≡ []) }
+    {
+        let s = self.asked_id(Numbered::Terms, &pattern.subject)?;
+        let p = self.asked_id(Numbered::Predicates, &pattern.predicate)?;
+        let o = self.asked_id(Numbered::Terms, &pattern.object)?;
+        Some(IdPattern { s, p, o })
+    }
+
+    /// The number of a term, if one is asked for. `None` where it has no such number.
+    fn asked_id(&self, numbered: Numbered, asked: &Option<Term>) -> Option<Option<u64>>
+        ensures some { IfSome result (IsAskedIn numbered self.now asked.now) }
+        ensures none { IfNone result ((id : Option ℕ) → ¬ IsAskedIn numbered self.now asked.now id) }
+    {
+        let Some(term) = asked else {
+            return Some(None);
+        };
+        if !numbered.has(term.kind()) {
+            return None;
+        }
+        let id = self.id_of(term.kind(), term.spelling())?;
+        Some(Some(id))
     }
 
     /// Goes over the triples of the chain that fit the pattern and are greater than `after`, which need not

@@ -41,3 +41,58 @@ pub fn chains_stand_for_layers()
     ensures strangers { (history : History) (k : ℕ) (wanted : Pattern) (term : TextTerm) → IsWellKept history → ¬ IsTermAt history (Some k) term
         → (wanted.subject ≡ Some term) ⊎ ((wanted.predicate ≡ Some term) ⊎ (wanted.object ≡ Some term)) → select history k wanted ≡ [] }
 {}
+
+ghost use Rattle.ts_chain.specs.Laws.{
+  CountsAreTotals,
+  CountsFit,
+  FetchesGiveTheWalk,
+  FilesTellOneHistory,
+  KindsSelectNothing,
+  NameEachPredicate,
+  NameEachTerm,
+  NameOnePredicate,
+  NameOneTerm,
+  NamePredicatesOfLayers,
+  NameRemovedTriples,
+  NameTermsOfLayers,
+  PartsAreCounted,
+  SpellingsTellTriples,
+  WalksGoOn,
+};
+
+/// On every chain, whether or not its parts stand for a history, each number up to its totals names one term, and no other number names
+/// any. Where the chain stands for a layer, the numbers of the layer's terms name them, and so do those of a triple that the layer removes.
+pub fn numbers_name_terms()
+    ensures one_term { NameOneTerm }
+    ensures one_predicate { NameOnePredicate }
+    ensures each_term { NameEachTerm }
+    ensures each_predicate { NameEachPredicate }
+    ensures terms { NameTermsOfLayers }
+    ensures predicates { NamePredicatesOfLayers }
+    ensures removed { NameRemovedTriples }
+{}
+
+/// A triple is that of its three spellings, and a pattern with a term of a kind that stands nowhere in its place selects nothing.
+pub fn kinds_are_told()
+    ensures spelled { SpellingsTellTriples }
+    ensures nothing { KindsSelectNothing }
+{}
+
+/// A walk that is made anew, from after a triple that another walk gave, is what that one had left. So fetches, however many triples
+/// each takes, give one after another what one walk gives.
+pub fn walks_go_on()
+    ensures left { WalksGoOn }
+    ensures fetches { FetchesGiveTheWalk }
+{}
+
+/// Histories with the same layers, each in one file, are one.
+pub fn files_tell_one_history()
+    ensures { FilesTellOneHistory }
+{}
+
+/// The terms that a layer mentions are as many as its numbers, and as many as those of parts that stand for it.
+pub fn counts_are_totals()
+    ensures totals { CountsAreTotals }
+    ensures parts { PartsAreCounted }
+    ensures fit { CountsFit }
+{}

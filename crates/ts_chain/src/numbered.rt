@@ -1,9 +1,11 @@
 //! The two kinds of numbers that terms have.
 
-ghost use Rattle.std.specs.Prelude.{◌≡◌};
+ghost use Rattle.std.specs.Prelude.{◌≡◌, ◌↔◌, IsTrue};
 ghost use Rattle.ts_part.specs.declared.header.Header.{Header};
 ghost use Rattle.ts_chain.specs.Numbered.{before_of};
+ghost use Rattle.ts_chain.specs.Patterns.{IsNumberedBy};
 
+use ts_model::TermKind;
 use ts_part::Header;
 
 /// Nodes and values are numbered together, predicates for themselves.
@@ -21,6 +23,16 @@ impl Numbered {
         match self {
             Numbered::Terms => header.terms_before,
             Numbered::Predicates => header.predicates_before,
+        }
+    }
+
+    /// Whether terms of a kind have such numbers.
+    pub(crate) fn has(self, kind: TermKind) -> bool
+        ensures { IsTrue result ↔ IsNumberedBy self kind }
+    {
+        match self {
+            Numbered::Terms => kind != TermKind::Predicate,
+            Numbered::Predicates => kind == TermKind::Predicate,
         }
     }
 }

@@ -1,8 +1,11 @@
+pub mod NewerParts
 pub mod NumberedTerms
 pub mod NumbersAbove
+pub mod OnceEach
 pub mod RolledFacts
 pub mod RolledFiles
 pub mod RolledHeader
+pub mod RolledSums
 pub mod SideBySide
 pub mod TriplesApart
 pub mod WholeWalks

@@ -1,3 +1,4 @@
 pub mod Upto
 pub mod Rolled
 pub mod Waiting
+pub mod Sums

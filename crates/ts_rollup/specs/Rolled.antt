@@ -1,5 +1,5 @@
 -- The facts of a rollup, by what the two chains tell.
-use Rattle.std.specs.Prelude.{◌≡◌, ℕ, ◌+◌, ◌-◌, ◌<◌, not, List, length, slice_get, filter, map, Contains, Some}
+use Rattle.std.specs.Prelude.{◌≡◌, ℕ, ◌+◌, ◌-◌, ◌<◌, not, List, length, slice_get, filter, map, All, Contains, Some}
 use Rattle.std.specs.List.{range_with_len}
 use Rattle.ts_model.specs.declared.term.TermKind.TheVariants.{Node, Predicate, Value}
 use Rattle.ts_model.specs.TextTerm.{TextTerm}
@@ -9,7 +9,7 @@ use Rattle.ts_part.specs.declared.header.PartKind.TheVariants.{Rollup}
 use Rattle.ts_part.specs.Facts.{Facts, entries_of}
 use Rattle.ts_part.specs.Header.{KeepsHeaderRules, header_of}
 use Rattle.ts_part.specs.Rules.{TermsRule}
-use Rattle.ts_chain.specs.Chain.{layer_of, predicates_in, terms_in}
+use Rattle.ts_chain.specs.Chain.{IsChain, layer_of, predicates_in, terms_in}
 use Rattle.ts_chain.specs.Content.{has, triples_of}
 use Rattle.ts_chain.specs.Stands.{StandsFor}
 use Rattle.ts_chain.specs.Views.{NamesPredicate, NamesTerm}
@@ -42,6 +42,7 @@ pub record AreSpelled (facts : Facts) : Type 0 where
 
 -- the terms above the lower totals, with their numbers, and the triples that only one of the two has
 pub record IsRolled (lower upper : List Facts) (facts : Facts) : Type 0 where
+  pub chain : IsChain upper
   pub header : KeepsHeaderRules (header_of facts 0)
   pub kind : facts.kind ≡ Rollup
   pub number : layer_of upper ≡ Some facts.number
@@ -50,6 +51,9 @@ pub record IsRolled (lower upper : List Facts) (facts : Facts) : Type 0 where
   pub predicates_before : facts.predicates_before ≡ predicates_in lower
   pub terms : AreNumbered (NamesTerm upper) (terms_in lower) (terms_in upper) (entries_of facts) facts.term_map
   pub predicates : AreNumbered (NamesPredicate upper) (predicates_in lower) (predicates_in upper) facts.predicates facts.predicate_map
+  pub node_kinds : All (λ term. term.kind ≡ Node) facts.nodes
+  pub predicate_kinds : All (λ term. term.kind ≡ Predicate) facts.predicates
+  pub value_kinds : All (λ term. term.kind ≡ Value) facts.values
   pub spelled : (history : History) (k : ℕ) → StandsFor upper history k → AreSpelled facts
   pub additions : facts.additions ≡ more_than upper lower
   pub removals : facts.removals ≡ more_than lower upper

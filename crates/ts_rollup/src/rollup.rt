@@ -3,11 +3,13 @@
 ghost use Rattle.std.specs.Prelude.{◌≡◌, ℕ, ◌+◌, ◌-◌, ◌<◌, ◌≤◌, All, IfOk, IfSome, List, Option, Some, map};
 ghost use Rattle.std.specs.Option.{option_map};
 ghost use Rattle.ts_model.specs.History.{History};
+ghost use Rattle.ts_part.specs.Facts.{Facts};
 ghost use Rattle.ts_part.specs.Step.{RollupSays};
 ghost use Rattle.ts_part.specs.declared.header.PartKind.TheVariants.{Rollup};
 ghost use Rattle.ts_chain.specs.Begins.{BeginsOver};
 ghost use Rattle.ts_chain.specs.Chain.{IsChain, layer_of, parts_or_none, predicates_in, terms_in};
 ghost use Rattle.ts_rollup.specs.Rolled.{IsRolled, numbers_above};
+ghost use Rattle.ts_rollup.specs.Sums.{AreAbove, HasSums};
 ghost use Rattle.ts_rollup.specs.Upto.{AreBelow, HasTotals, StandForBoth};
 
 use crate::difference::difference_of;
@@ -21,6 +23,8 @@ pub fn roll(alloc: Global, chain: &Chain, upto: Option<&Chain>) -> Result<Vec<u8
     ensures begins { IfOk result (λ file. IfSome (layer_of chain.now) (λ number.
         BeginsOver Rollup number (parts_or_none (option_map (λ chain. chain.now) upto.entry)) file.items)) }
     ensures totals { IfOk result (λ file. HasTotals chain.now file.items) }
+    ensures sums { IfOk result (λ file. (newer : List Facts)
+        → AreAbove (parts_or_none (option_map (λ chain. chain.now) upto.entry)) chain.now newer → HasSums newer file.items) }
     ensures says { (history : History) (from : Option ℕ) (k : ℕ)
         → StandForBoth history from k (parts_or_none (option_map (λ chain. chain.now) upto.entry)) chain.now
         → IfOk result (λ file. RollupSays file.items history from k) }

@@ -98,6 +98,7 @@ returns c =
       predicate_map = c.in_ok-predicate_map.predicate_map.items;
     } in
     record {
+      chain = c.number.ensures.chain;
       header = rolled_header lower c.args.chain.now facts c.requires c.number.ensures.number c.lower_of-lower.ensures.layer c.lower_of-lower.ensures.terms c.lower_of-lower.ensures.predicates
           terms.as_many predicates.as_many c.in_ok-triples.ensures.lost c.number.ensures.chain (lower_is (λ chain. chain.now) c.args.upto c.lower_of-lower.ensures.chain);
       kind = refl;
@@ -107,6 +108,9 @@ returns c =
       predicates_before = c.lower_of-lower.ensures.predicates;
       terms = terms;
       predicates = predicates;
+      node_kinds = c.in_ok-terms.ensures.nodes_are.kinds;
+      predicate_kinds = c.in_ok-predicates.ensures.predicates_are.kinds;
+      value_kinds = c.in_ok-terms.ensures.values_are.kinds;
       spelled = λ history k stands. record {
         nodes = c.in_ok-terms.ensures.nodes history k stands;
         predicates = c.in_ok-predicates.ensures.predicates history k stands;
