@@ -7,7 +7,7 @@ use Rattle.ts_site.specs.Folder.{Folder}
 use Rattle.ts_site.specs.Moments.{GoesOn, Moment}
 use Rattle.ts_site.specs.Outside.{AddsNoImage, IsHonest, Outside, moments_of}
 use Rattle.ts_site.proofs.CrashLemmas.{adds_none_more, adds_none_same}
-use Rattle.ts_site.proofs.GoesLemmas.{goes_more, goes_weaker, honest_reads}
+use Rattle.ts_site.proofs.GoesLemmas.{goes_more, goes_none, goes_weaker, honest_reads}
 use Rattle.ts_script.specs.declared.command.Command.{Command}
 use Rattle.ts_store.specs.declared.stop.Kind.{Kind}
 use Rattle.ts_store.specs.declared.stop.Stop.{Stop}
@@ -26,7 +26,7 @@ use Rattle.ts_cli.specs.Ends.{AreDone, ComesTo, Ends, EndsAfter, IsUnsettled, Op
 use Rattle.ts_cli.specs.declared.outcome.Outcome.{Outcome}
 use Rattle.ts_cli.proofs.CommandsLemmas.{after_front, after_next, after_none, answers_none}
 use Rattle.ts_cli.proofs.HeadlineLaws.{all_same, given_first, same_state}
-use Rattle.ts_cli.proofs.SafeLaws.{still_honest, still_settled}
+use Rattle.ts_cli.proofs.SafeLaws.{still_honest}
 use Rattle.ts_store.proofs.TellsLaws.{step_tells}
 
 -- ---- between two steps
@@ -134,14 +134,12 @@ stepped_at : (a b : Outside) (state : State) (asked : Command) (kind : Kind) →
 stepped_at a b state asked kind one at = let safe = one.safe at in record { honest = safe.honest; is = one.stands_after at.is; leaves = safe.ok }
 
 done_settled : (a b : Outside) (state : State) (done : List Command) → IsSettledAt Stands state a → AreDone (change_of a b) state done → IsSettledAt Stands (after state done (length done)) b
-done_settled a b state [] at all = still_settled a b state all at
+done_settled a b state [] at still = subst (λ (o : Outside). IsSettledAt Stands state o) (sym still) at
 done_settled a b state (asked ∷ done) at (middle, kind, one, rest) = done_settled middle b (step_of state asked).state done (stepped_at a middle state asked kind one at) rest
 
 done_prefix : (a b c : Outside) (state : State) (done more : List Command) → IsSettledAt Stands state a → AreDone (change_of a b) state done
     → GoesOn (IsPrefixMoment (after state done (length done)) more b.told) (moments_of b) (moments_of c) → GoesOn (IsPrefixMoment state (done ++ more) a.told) (moments_of a) (moments_of c)
-done_prefix a b c state [] more at all tail =
-    goes_more (IsPrefixMoment state more a.told) (moments_of a) (moments_of b) (moments_of c) (still_prefix a b state more at all.images)
-    (subst (λ (told : List ℕ). GoesOn (IsPrefixMoment state more told) (moments_of b) (moments_of c)) all.told tail)
+done_prefix a b c state [] more at still tail = subst (λ (o : Outside). GoesOn (IsPrefixMoment state more o.told) (moments_of o) (moments_of c)) still tail
 done_prefix a b c state (asked ∷ done) more at (middle, kind, one, rest) tail =
     let next = (step_of state asked).state in
     goes_more (IsPrefixMoment state (asked ∷ done ++ more) a.told) (moments_of a) (moments_of middle) (moments_of c) (step_prefix state asked (done ++ more) a middle (Ok kind) (one.safe at))
@@ -165,10 +163,11 @@ module _ (state : State) (done : List Command) (commands : List Command) (middle
   here = after state done (length done)
 
   -- what is left where nothing was done any more
-  still_leaves : (more : List Command) → commands ≡ done ++ more → LeavesAll (change_of middle c) → LeavesAfter state commands (length done) c.crash
-  still_leaves more parts all = λ image is.
+  still_leaves : (more : List Command) → commands ≡ done ++ more → c ≡ middle → LeavesAfter state commands (length done) c.crash
+  still_leaves more parts still = λ image is.
       let same : after state commands (length done) ≡ here = ap (λ (cs : List Command). after state cs (length done)) parts ∙ after_front state done more in
-      inl (subst (λ (s : State). Stands image s) (sym same) (settled_stands middle here c.crash at (all.images.now at.honest.images) image is))
+      let then : IsImage middle.crash image = subst (λ (o : Outside). IsImage o.crash image) still is in
+      inl (subst (λ (s : State). Stands image s) (sym same) (agrees_stands middle.folder image here (at.leaves image then) at.is))
 
   -- or one more step was begun
   step_leaves : (asked : Command) (more : List Command) → commands ≡ done ++ asked ∷ more → (answer : Result Kind Stop) → IsSafe Stands here (step_of here asked) answer middle c → LeavesAfter state commands (length done) c.crash
@@ -206,15 +205,17 @@ module _ (a b c : Outside) (asking : Asking) (told_input : IsTrue asking.tells) 
     leaves,
   )
 
-  still : (more : List Command) → commands ≡ done ++ more → LeavesAll (change_of b c) → Crashes
-  still more parts all = crashes more parts (still_prefix b c then_state more then_at all.images) (still_leaves state done commands b c then_at more parts all)
+  still : (more : List Command) → commands ≡ done ++ more → c ≡ b → Crashes
+  still more parts same =
+      crashes more parts (subst (λ (o : Outside). GoesOn (IsPrefixMoment then_state more b.told) (moments_of b) (moments_of o)) (sym same) (goes_none (IsPrefixMoment then_state more b.told) (moments_of b)))
+      (still_leaves state done commands b c then_at more parts same)
 
-  ends_prefix : (stop : Option Stop) → EndsAfter (change_of b c) asking state done stop → Crashes
-  ends_prefix None (given, whole, all) = still [] (all_same asking told_input commands are done (whole told_input) ∙ sym (append-nil done)) all
-  ends_prefix (Some stop) (inl (run, between, given, all)) =
+  ends_prefix : (left_after : List ℕ) (stop : Option Stop) → EndsAfter (change_of b c) asking left_after state done stop → Crashes
+  ends_prefix left_after None (given, whole, same) = still [] (all_same asking told_input commands are done (whole told_input) ∙ sym (append-nil done)) same
+  ends_prefix left_after (Some stop) (inl (run, between, given, wholes, same)) =
       let (more, parts) = given_first asking told_input commands are done given in
-      still more parts all
-  ends_prefix (Some stop) (inr (asked, given, why, does)) =
+      still more parts same
+  ends_prefix left_after (Some stop) (inr (asked, given, why, does)) =
       let (more, first) = given_first asking told_input commands are (done ++ asked ∷ []) given in
       let parts : commands ≡ done ++ asked ∷ more = first ∙ append_assoc done (asked ∷ []) more in
       let safe = does.safe then_at in
@@ -266,7 +267,7 @@ opened_at a b state honest stands opens =
     }
 
 module _ (s : Change) (honest : IsHonest s.before) (a : Asking) (told_input : IsTrue a.tells) (state : State) (fresh : IsFresh state) (stands : Stands s.before.folder state)
-    (commands : List Command) (are : AreCommands a.words a.left commands) (outcome : Outcome) where
+    (commands : List Command) (are : AreCommands a.words a.left commands) (left_after : List ℕ) (outcome : Outcome) where
   -- a run that stopped before its first command
   stopped_safe : (early : StopsEarly s a.words outcome) → (IsUnsettled a.words early.stop × (s.after.crash ≡ s.before.crash)) ⊎ SettlesAll s.before s.after
       → IsCrashSafe a.words outcome state commands s.before s.after
@@ -291,15 +292,15 @@ module _ (s : Change) (honest : IsHonest s.before) (a : Asking) (told_input : Is
         (settled_stands settles.middle state s.after.crash (middle_at s.before s.after state honest stands settles) (settled_leaves s.before s.after state honest stands settles) image is)));
   })
 
-  pub headline_crash : Ends s a outcome → IsCrashSafe a.words outcome state commands s.before s.after
+  pub headline_crash : Ends s a left_after outcome → IsCrashSafe a.words outcome state commands s.before s.after
   headline_crash (inl early) = stopped_safe early (early.settles honest.images)
   headline_crash (inr (other, done, opened)) =
       let then = change_of opened.opened s.after in
-      let here : ComesTo then a outcome state done =
-      subst (λ (st : State). ComesTo then a outcome st done) (same_state s honest.folder a told_input state fresh stands commands are outcome other opened.comes.fresh opened.says) opened.comes in
+      let here : ComesTo then a left_after outcome state done =
+      subst (λ (st : State). ComesTo then a left_after outcome st done) (same_state s honest.folder a told_input state fresh stands commands are left_after outcome other opened.comes.fresh opened.says) opened.comes in
       let at : IsSettledAt Stands state opened.opened = opened_at s.before opened.opened state honest stands opened.opens in
       let settles = opened.opens.settles honest.images in
-      let crashes = ends_prefix opened.opened here.middle s.after a told_input state commands are done at here.steps outcome.stop here.ends in
+      let crashes = ends_prefix opened.opened here.middle s.after a told_input state commands are done at here.steps left_after outcome.stop here.ends in
       inr (record {
         middle = settles.middle;
         settles = settles.settles;

@@ -23,35 +23,3 @@ still_honest a b all honest = record {
   output = is_then all.telling.output honest.output;
   images = is_then all.images.telling honest.images;
 }
-
-module _ (a b : Outside) (state : State) (all : LeavesAll (change_of a b)) (at : IsSettledAt Stands state a) where
-  pub still_settled : IsSettledAt Stands state b
-  still_settled =
-      let same = all.folder at.honest.folder in
-      record {
-        honest = still_honest a b all at.honest;
-        is = subst (λ (f : Folder). Stands f state) (sym same) at.is;
-        leaves = leaves_on a.folder b.folder a.crash b.crash same (all.images.now at.honest.images) at.leaves;
-      }
-
-  -- moments before a step
-  module _ (stepped : Stepped) (longer : 0 < length stepped.told) where
-    still_moment : (moment : Moment) → AddsNone moment.crash a.crash × (moment.told ≡ a.told) → IsStepMoment Stands state stepped a.told moment
-    still_moment moment (adds, same) = record {
-      count = 0;
-      front = same ∙ sym (append-nil a.told);
-      either = λ image here. inl (settled_stands a state moment.crash at adds image here);
-      whole = λ none. absurd (omega (arith, longer, none));
-    }
-
-    pub safe_after : (c : Outside) (answer : Result Kind Stop) → (IsSettledAt Stands state b → IsSafe Stands state stepped answer b c) → IsSafe Stands state stepped answer a c
-    safe_after c answer does =
-        let safe = does still_settled in
-        record {
-          moments =
-              goes_more (IsStepMoment Stands state stepped a.told) (moments_of a) (moments_of b) (moments_of c)
-              (goes_weaker (λ moment. AddsNone moment.crash a.crash × (moment.told ≡ a.told)) (IsStepMoment Stands state stepped a.told) (moments_of a) (moments_of b) still_moment (all.images.moments at.honest.images))
-              (subst (λ (told : List ℕ). GoesOn (IsStepMoment Stands state stepped told) (moments_of b) (moments_of c)) all.told safe.moments);
-          ok = safe.ok;
-          honest = safe.honest;
-        }

@@ -109,9 +109,9 @@ pub kind_refused : (kind : Kind) (refused : Bool) → kind ≡ kind_of refused �
 kind_refused kind true is = ap is_refused is
 kind_refused kind false is = ap is_refused is
 
-module _ (s : Change) (a : Asking) where
+module _ (s : Change) (a : Asking) (left_after : List ℕ) where
   -- a stop before the folder was opened
-  pub ends_first : (outcome : Outcome) (stop : Stop) → outcome ≡ stopped_outcome 0 stop → (AreRun a.words → ⊥) → ComesFirst stop → LeavesAll s → s.after.crash ≡ s.before.crash → Ends s a outcome
+  pub ends_first : (outcome : Outcome) (stop : Stop) → outcome ≡ stopped_outcome 0 stop → (AreRun a.words → ⊥) → ComesFirst stop → LeavesAll s → s.after.crash ≡ s.before.crash → Ends s a left_after outcome
   ends_first outcome stop is single why all same = inl (record {
     stop = stop;
     outcome_is = is;
@@ -121,7 +121,7 @@ module _ (s : Change) (a : Asking) where
   })
 
   -- a stop of the opening
-  pub ends_opening : (outcome : Outcome) (stop : Stop) → outcome ≡ stopped_outcome 0 stop → IsNotOpened s stop → Ends s a outcome
+  pub ends_opening : (outcome : Outcome) (stop : Stop) → outcome ≡ stopped_outcome 0 stop → IsNotOpened s stop → Ends s a left_after outcome
   ends_opening outcome stop is (why, all, settles) = inl (record {
     stop = stop;
     outcome_is = is;
@@ -131,34 +131,34 @@ module _ (s : Change) (a : Asking) where
   })
 
   module _ (asked : Command) (asks : Asks a asked) where
-    pub ends_stopped : (outcome : Outcome) (stop : Stop) → outcome ≡ stopped_outcome 0 stop → ComesToStep s asked (Err stop) → Ends s a outcome
+    pub ends_stopped : (outcome : Outcome) (stop : Stop) → outcome ≡ stopped_outcome 0 stop → ComesToStep s asked (Err stop) → Ends s a left_after outcome
     ends_stopped outcome stop is (inl closed) = ends_opening outcome stop is closed
     ends_stopped outcome stop is (inr (why, (state, does))) =
         let then = change_of does.opened s.after in
-        let comes : ComesTo then a (stopped_outcome 0 stop) state [] = record {
+        let comes : ComesTo then a left_after (stopped_outcome 0 stop) state [] = record {
           fresh = does.fresh;
           says = does.steps.says;
           count = refl;
           status = refl;
           middle = does.opened;
-          steps = no_change does.opened;
+          steps = refl;
           ends = inr (asked, inr (asked, asks, refl), why, does.steps);
         } in
-        inr (state, [], record { says = does.says; opened = does.opened; opens = does.opens; comes = subst (λ (o : Outcome). ComesTo then a o state []) (sym is) comes })
+        inr (state, [], record { says = does.says; opened = does.opened; opens = does.opens; comes = subst (λ (o : Outcome). ComesTo then a left_after o state []) (sym is) comes })
 
-    pub ends_answered : (outcome : Outcome) (kind : Kind) → outcome ≡ ended_outcome 1 (is_refused kind) → ComesToStep s asked (Ok kind) → Ends s a outcome
+    pub ends_answered : (outcome : Outcome) (kind : Kind) → outcome ≡ ended_outcome 1 (is_refused kind) → ComesToStep s asked (Ok kind) → Ends s a left_after outcome
     ends_answered outcome kind is (state, does) =
         let then = change_of does.opened s.after in
-        let comes : ComesTo then a (ended_outcome 1 (is_refused kind)) state (asked ∷ []) = record {
+        let comes : ComesTo then a left_after (ended_outcome 1 (is_refused kind)) state (asked ∷ []) = record {
           fresh = does.fresh;
           says = does.steps.says;
           count = refl;
           status = ap (λ (b : Bool). cond b 1 0) (kind_refused kind (step_of state asked).refused does.steps.kind ∙ sym (or-false (step_of state asked).refused));
           middle = s.after;
-          steps = (s.after, kind, does.steps, no_change s.after);
-          ends = (inr (asked, asks, refl), asked_all a asked asks, no_change s.after);
+          steps = (s.after, kind, does.steps, refl);
+          ends = (inr (asked, asks, refl), asked_all a asked asks, refl);
         } in
-        inr (state, asked ∷ [], record { says = does.says; opened = does.opened; opens = does.opens; comes = subst (λ (o : Outcome). ComesTo then a o state (asked ∷ [])) (sym is) comes })
+        inr (state, asked ∷ [], record { says = does.says; opened = does.opened; opens = does.opens; comes = subst (λ (o : Outcome). ComesTo then a left_after o state (asked ∷ [])) (sym is) comes })
 
 -- ---- the causes of a run that came to no command
 
@@ -217,13 +217,13 @@ module _ (a : Asking) (single : AreRun a.words → ⊥) (stop : Stop) (why : Com
       → (IsTrue a.tells → stop ≡ InputLimit → IsOverLimit a.left left_after) → CountsFault (is_input_fault stop) faults faults_after
       → HasCause (change_of o o) a left_after faults faults_after outcome.stop
   cause_first o outcome is left_after faults faults_after usage none read over counts =
-      let ends : Ends (change_of o o) a (stopped_outcome 0 stop) = ends_first (change_of o o) a (stopped_outcome 0 stop) stop refl single why (no_change o) refl in
+      let ends : Ends (change_of o o) a left_after (stopped_outcome 0 stop) = ends_first (change_of o o) a left_after (stopped_outcome 0 stop) stop refl single why (no_change o) refl in
       let cause : HasCause (change_of o o) a left_after faults faults_after (Some stop) = record {
         usage = usage_first usage none;
         disk = subst (λ (b : Bool). CountsFault b o.disk_faults o.disk_faults) (sym (no_disk stop why)) refl;
         output = subst (λ (b : Bool). CountsFault b o.say_faults o.say_faults) (sym (no_output stop why)) refl;
         input = counts;
-        damaged = λ told. damaged_cause (change_of o o) a (stopped_outcome 0 stop) ends (λ name e. absurd (no_damage name (subst ComesFirst (some_is stop (Damaged name) e) why)));
+        damaged = λ told. damaged_cause (change_of o o) a left_after (stopped_outcome 0 stop) ends (λ name e. absurd (no_damage name (subst ComesFirst (some_is stop (Damaged name) e) why)));
         limit = limit_first left_after read over;
       } in
       subst (λ (out : Outcome). HasCause (change_of o o) a left_after faults faults_after out.stop) (sym is) cause
@@ -255,7 +255,7 @@ module _ (s : Change) (a : Asking) (single : AreRun a.words → ⊥) (command : 
 
   pub cause_stopped : (outcome : Outcome) (stop : Stop) → outcome ≡ stopped_outcome 0 stop → (IsReadingStop stop → ⊥)
       → CountsFault (is_disk_fault stop) s.before.disk_faults s.after.disk_faults → CountsFault (is_output_fault stop) s.before.say_faults s.after.say_faults
-      → (IsTrue s.before.tells_folder → Ends s a outcome) → (IsTrue s.before.tells_folder → (name : List ℕ) → stop ≡ Damaged name → IsFirstDamaged s.before.folder name)
+      → (IsTrue s.before.tells_folder → Ends s a left_after outcome) → (IsTrue s.before.tells_folder → (name : List ℕ) → stop ≡ Damaged name → IsFirstDamaged s.before.folder name)
       → HasCause s a left_after faults faults_after outcome.stop
   cause_stopped outcome stop is later disk output ends named =
       let cause : HasCause s a left_after faults faults_after (Some stop) = record {
@@ -263,13 +263,13 @@ module _ (s : Change) (a : Asking) (single : AreRun a.words → ⊥) (command : 
         disk = disk;
         output = output;
         input = input_read stop later;
-        damaged = λ told. damaged_cause s a (stopped_outcome 0 stop) (subst (λ (o : Outcome). Ends s a o) is (ends told)) (λ name e. named told name (some_is stop (Damaged name) e));
+        damaged = λ told. damaged_cause s a left_after (stopped_outcome 0 stop) (subst (λ (o : Outcome). Ends s a left_after o) is (ends told)) (λ name e. named told name (some_is stop (Damaged name) e));
         limit = limit_read (Some stop) (later_limit stop later);
       } in
       subst (λ (o : Outcome). HasCause s a left_after faults faults_after o.stop) (sym is) cause
 
   pub cause_answered : (outcome : Outcome) (refused : Bool) → outcome ≡ ended_outcome 1 refused
-      → s.after.disk_faults ≡ s.before.disk_faults → s.after.say_faults ≡ s.before.say_faults → (IsTrue s.before.tells_folder → Ends s a outcome)
+      → s.after.disk_faults ≡ s.before.disk_faults → s.after.say_faults ≡ s.before.say_faults → (IsTrue s.before.tells_folder → Ends s a left_after outcome)
       → HasCause s a left_after faults faults_after outcome.stop
   cause_answered outcome refused is disk output ends =
       let cause : HasCause s a left_after faults faults_after None = record {
@@ -277,7 +277,7 @@ module _ (s : Change) (a : Asking) (single : AreRun a.words → ⊥) (command : 
         disk = disk;
         output = output;
         input = quiet;
-        damaged = λ told. damaged_cause s a (ended_outcome 1 refused) (subst (λ (o : Outcome). Ends s a o) is (ends told)) (λ name e. absurd (cc));
+        damaged = λ told. damaged_cause s a left_after (ended_outcome 1 refused) (subst (λ (o : Outcome). Ends s a left_after o) is (ends told)) (λ name e. absurd (cc));
         limit = limit_read None (λ e. cc);
       } in
       subst (λ (o : Outcome). HasCause s a left_after faults faults_after o.stop) (sym is) cause

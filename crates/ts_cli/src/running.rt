@@ -69,7 +69,7 @@ pub fn run<W: Site, S: Source>(
     // where the folder stands for no state and the input isn't told.
     ensures status { HasStatus (map string_bytes words.now) result }
     ensures ends { IsTrue (W.outside site.old).tells_folder
-        → Ends (change_of (W.outside site.old) (W.outside site.new)) (asking (map string_bytes words.now) (S.tells input.old) (S.left input.old)) result }
+        → Ends (change_of (W.outside site.old) (W.outside site.new)) (asking (map string_bytes words.now) (S.tells input.old) (S.left input.old)) (S.left input.new) result }
 
     // Other words touch nothing. A command is read before the folder is opened. Only a script, and the body of `base` and `commit`, are
     // read, to the end of the input.

@@ -4,6 +4,7 @@ ghost use Rattle.ts_site.specs.Faults.{CountsFault, is_err_and};
 ghost use Rattle.ts_site.specs.Telling.{Tells};
 ghost use Rattle.ts_script.specs.Cutting.{HasSeenAll, IsAtLimit, Took, lines_to_come, next_offset, progress};
 ghost use Rattle.ts_script.specs.Lines.{line_view};
+ghost use Rattle.ts_script.specs.Next.{WaitsForMore};
 ghost use Rattle.ts_script.specs.declared.command.Command.{Command};
 ghost use Rattle.ts_store.specs.FolderSays.{FolderSays};
 ghost use Rattle.ts_store.specs.Keeps.{Keeps, spent_by};
@@ -29,7 +30,7 @@ use ts_store::{Kind, Session};
 /// read.
 pub(crate) fn run_script<W: Site, S: Source>(alloc: Global, site: &mut W, input: &mut S) -> Outcome
     ensures ends { IsTrue (W.outside site.old).tells_folder
-        → Ends (change_of (W.outside site.old) (W.outside site.new)) (asking run_words (S.tells input.old) (S.left input.old)) result }
+        → Ends (change_of (W.outside site.old) (W.outside site.new)) (asking run_words (S.tells input.old) (S.left input.old)) (S.left input.new) result }
     ensures causes { HasCause (change_of (W.outside site.old) (W.outside site.new)) (asking run_words (S.tells input.old) (S.left input.old))
         (S.left input.new) (S.faults input.old) (S.faults input.new) result.stop }
     ensures status { HasStatus run_words result }
@@ -52,7 +53,7 @@ fn do_commands<W: Site, S: Source>(
 ) -> Outcome
     requires { spent_by session.old ≡ None }
     ensures ends { (state : State) → Keeps session.old state → IsFresh state → IsTrue (W.outside site.old).tells_folder → FolderSays (W.outside site.old).folder state
-        → (done : List Command) × ComesTo (change_of (W.outside site.old) (W.outside site.new)) (asking run_words (S.tells input.old) (S.left input.old)) result state done }
+        → (done : List Command) × ComesTo (change_of (W.outside site.old) (W.outside site.new)) (asking run_words (S.tells input.old) (S.left input.old)) (S.left input.new) result state done }
     ensures why { IfSome result.stop IsScriptStop }
     ensures disk { CountsFault (is_stop_and is_disk_fault result.stop) (W.outside site.old).disk_faults (W.outside site.new).disk_faults }
     ensures output { CountsFault (is_stop_and is_output_fault result.stop) (W.outside site.old).say_faults (W.outside site.new).say_faults }
@@ -92,6 +93,9 @@ fn read_next<S: Source>(
     ensures limit { IfOk result (λ asked. IfSome asked (λ _. (progress cutter.new).limit ≡ (progress cutter.old).limit)) }
     ensures short { IfOk result (λ asked. IfNone asked ((progress cutter.new).taken < (progress cutter.new).limit)) }
     ensures limited { IfErr result (λ stop. stop ≡ Stop.InputLimit → IsAtLimit cutter.new) }
+    ensures waits { IsTrue (S.tells input.old) → HasSeenAll cutter.old (S.left input.old)
+        → (lines : List (List ℕ)) → lines_to_come cutter.old (S.left input.old) ≡ map line_view lines
+        → IfErr result (λ stop. (stop ≡ Stop.Memory → ⊥) → WaitsForMore cutter.old cutter.new lines) }
     ensures why { IfErr result IsBetween }
     ensures counts { CountsFault (is_err_and is_input_fault result) (S.faults input.old) (S.faults input.new) }
 {

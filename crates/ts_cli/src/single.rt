@@ -70,7 +70,7 @@ pub(crate) fn run_command<W: Site, S: Source>(
 ) -> Outcome
     requires { AreRun (map string_bytes words.now) → ⊥ }
     ensures ends { IsTrue (W.outside site.old).tells_folder
-        → Ends (change_of (W.outside site.old) (W.outside site.new)) (asking (map string_bytes words.now) (S.tells input.old) (S.left input.old)) result }
+        → Ends (change_of (W.outside site.old) (W.outside site.new)) (asking (map string_bytes words.now) (S.tells input.old) (S.left input.old)) (S.left input.new) result }
     ensures causes { HasCause (change_of (W.outside site.old) (W.outside site.new)) (asking (map string_bytes words.now) (S.tells input.old) (S.left input.old))
         (S.left input.new) (S.faults input.old) (S.faults input.new) result.stop }
     ensures status { HasStatus (map string_bytes words.now) result }

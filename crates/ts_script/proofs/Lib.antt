@@ -19,4 +19,5 @@ pub mod ScriptFronts
 pub mod ScriptLaws
 pub mod ScriptSoFar
 pub mod SilentLines
+pub mod WholeLemmas
 pub mod WordLemmas

@@ -4,7 +4,7 @@ ghost use Rattle.ts_site.specs.Faults.{CountsFault, is_err_and};
 ghost use Rattle.ts_site.specs.Telling.{Tells};
 ghost use Rattle.ts_script.specs.Lines.{line_view};
 ghost use Rattle.ts_script.specs.Cutting.{lines_to_come, next_offset, progress, IsAtLimit, Took, HasSeenAll, HasWholeLine};
-ghost use Rattle.ts_script.specs.Next.{NextCommandIs};
+ghost use Rattle.ts_script.specs.Next.{NextCommandIs, WaitsForMore};
 ghost use Rattle.ts_script.specs.Script.{IsFinished, IsNextCommand, WantMemory};
 ghost use Rattle.ts_script.specs.StopFaults.{is_script_fault};
 
@@ -35,6 +35,10 @@ pub fn next_command<S: Source>(
     ensures memory { IsTrue (S.tells input.old) → HasSeenAll cutter.old (S.left input.old)
         → (lines : List (List ℕ)) → lines_to_come cutter.old (S.left input.old) ≡ map line_view lines
         → IfErr result (λ stop. stop ≡ ScriptStop.Memory → WantMemory lines) }
+    // At a fault or the limit each whole line of the bytes that were taken was given, and no command stands whole in these.
+    ensures waits { IsTrue (S.tells input.old) → HasSeenAll cutter.old (S.left input.old)
+        → (lines : List (List ℕ)) → lines_to_come cutter.old (S.left input.old) ≡ map line_view lines
+        → IfErr result (λ stop. (stop ≡ ScriptStop.Memory → ⊥) → WaitsForMore cutter.old cutter.new lines) }
     ensures limited { IfErr result (λ stop. stop ≡ ScriptStop.Limit → IsAtLimit cutter.new) }
     ensures counts { CountsFault (is_err_and is_script_fault result) (S.faults input.old) (S.faults input.new) }
 {

@@ -1,23 +1,24 @@
 use Rattle.std.proofs.Common.{◌≡◌, ℕ, ◌<◌, ◌^◌, ◌++◌, [], Bool, List, IsTrue, None, Ok, Err, length, map, true≢false, refl, sym, ap, ◌∙◌, subst, arith, length-append}
 use Rattle.ts_script.specs.Cutting.{lines_to_come, progress}
 use Rattle.ts_script.specs.Lines.{line_view, lines_of}
-use Rattle.ts_script.proofs.CuttingLemmas.{left-left, took-took}
+use Rattle.ts_script.proofs.CuttingLemmas.{left-left, took-nothing, took-took}
 use Rattle.ts_store.specs.FolderSays.{FolderSays}
 use Rattle.ts_store.specs.Steps.{after}
+use Rattle.ts_store.specs.declared.stop.Stop.TheVariants.{Memory}
 use Rattle.ts_cli.specs.Asked.{IsOfScript}
 use Rattle.ts_cli.specs.Causes.{IsOverLimit}
 use Rattle.ts_cli.specs.Change.{change_of}
-use Rattle.ts_cli.specs.Ends.{StepsFrom}
+use Rattle.ts_cli.specs.Ends.{AreAllWhole, StepsFrom}
 use Rattle.ts_script.specs.Next.{GivesCommand, NextCommandIs}
 use Rattle.ts_cli.specs.declared.tally.Tally.{Tally}
 use Rattle.ts_cli.proofs.InputLemmas.{over_limit}
-use Rattle.ts_cli.proofs.ScriptLaws.{comes_between, comes_ended, comes_none, comes_stepped, limit_stopped, none_ended, offset_within, so_far_more, so_far_none, SoFar}
+use Rattle.ts_cli.proofs.ScriptLaws.{comes_between, comes_ended, comes_none, comes_stepped, limit_stopped, none_ended, offset_within, so_far_more, so_far_none, stopped_whole, SoFar}
 use Rattle.ts_cli.proofs.StepsLemmas.{done_says, telling_on}
 use Rattle.ts_cli.proofs.script.do_commands.Goals as goal
 
 pub returns-in_default-clause-ends : goal.returns-in_default-clause-ends
 returns-in_default-clause-ends g c = λ state keeps fresh told says.
-    ([], comes_none (g.S.Source.tells c.args.input.now) (g.S.Source.left c.args.input.now) (g.W.Disk.outside c.args.site.now) state c.stopped.result _ c.stopped.ensures fresh says tt)
+    ([], comes_none (g.S.Source.tells c.args.input.now) (g.S.Source.left c.args.input.now) (g.S.Source.left c.args.input.now) (g.W.Disk.outside c.args.site.now) state c.stopped.result c.stopped.ensures fresh says)
 
 pub loop-stop-init : goal.loop-stop-init
 loop-stop-init g c =
@@ -37,16 +38,29 @@ loop-stop-init g c =
       lines = λ told. (lines_of left, c.in-Ok.ensures.lines left);
       seen = λ told ended. absurd (true≢false (sym ended ∙ fresh.has_ended));
       limit = fresh.limit;
-      taken = λ told. ([], record { taken = omega arith; limit = refl }, refl);
+      taken = λ told. ([], took-nothing c.in-Ok.cutter, refl);
       counted = omega (arith, ap (λ (t : Tally). t.done) c.new-tally.ensures);
     }
 
 pub returns-in-Err-clause-ends : goal.returns-in-Err-clause-ends
 returns-in-Err-clause-ends g c = λ state keeps fresh told says.
-    let so = c.loop-stop.invariant.so_far state keeps told says in (
+    let was = c.loop-stop.invariant in
+    let so = was.so_far state keeps told says in
+    let left = g.S.Source.left c.args.input.now in
+    let left_now = g.S.Source.left c.loop-stop.input in
+    let left_after = g.S.Source.left c.read_next.new.input in
+    let whole : (c.in-Err.stop ≡ Memory → ⊥) → IsTrue (g.S.Source.tells c.args.input.now) → AreAllWhole left left_after so.done = λ input tells.
+    let tells_now = subst (λ (b : Bool). IsTrue b) (sym was.tells) tells in
+    let first = was.taken tells in
+    let took = c.in-Err.ensures.taken.1 tells_now in
+    let read = so.read tells in
+    let waits = c.in-Err.ensures.waits tells_now (was.seen tells) read.rest read.to_come input in
+    stopped_whole (g.S.Source.tells c.args.input.now) left (g.W.Disk.outside c.args.site.now) (g.W.Disk.outside c.loop-stop.site) state c.loop-stop.session c.loop-stop.tally c.loop-stop.cutter left_now so
+    c.in-Ok.cutter c.read_next.new.cutter (first.0 ++ took.0) left_after tells c.in-Ok.ensures.lines c.in-Ok.ensures.fresh.number
+    (took-took c.in-Ok.cutter c.loop-stop.cutter c.read_next.new.cutter first.0 took.0 first.1 took.1) (left-left left first.0 took.0 left_now left_after first.2 took.2) waits.unended took.1.ended waits in (
       so.done,
-      comes_between (g.S.Source.tells c.args.input.now) (g.S.Source.left c.args.input.now) (g.W.Disk.outside c.args.site.now) (g.W.Disk.outside c.loop-stop.site) told state
-          c.loop-stop.session c.loop-stop.tally c.loop-stop.cutter (g.S.Source.left c.loop-stop.input) so c.stopped-in-Err.result c.in-Err.stop c.stopped-in-Err.ensures fresh says c.in-Err.ensures.why,
+      comes_between (g.S.Source.tells c.args.input.now) (g.S.Source.left c.args.input.now) (g.W.Disk.outside c.args.site.now) (g.W.Disk.outside c.loop-stop.site) state
+          c.loop-stop.session c.loop-stop.tally c.loop-stop.cutter (g.S.Source.left c.loop-stop.input) so c.stopped-in-Err.result c.in-Err.stop c.stopped-in-Err.ensures fresh says c.in-Err.ensures.why left_after whole,
     )
 
 pub returns-in-Err-clause-limit : goal.returns-in-Err-clause-limit
@@ -55,7 +69,7 @@ returns-in-Err-clause-limit g c = λ told.
     let took = c.in-Err.ensures.taken.1 (subst (λ (b : Bool). IsTrue b) (sym was.tells) told) in
     let taken = was.taken told in
     let bytes = taken.0 ++ took.0 in
-    let all = took-took c.in-Ok.cutter c.loop-stop.cutter c.read_next.new.cutter taken.0 took.0 taken.1 took.1.taken took.1.limit in
+    let all = took-took c.in-Ok.cutter c.loop-stop.cutter c.read_next.new.cutter taken.0 took.0 taken.1 took.1 in
     let whole = left-left (g.S.Source.left c.args.input.now) taken.0 took.0 (g.S.Source.left c.loop-stop.input) (g.S.Source.left c.read_next.new.input) taken.2 took.2 in
     limit_stopped c.stopped-in-Err.result c.loop-stop.tally.done c.in-Err.stop (IsOverLimit (g.S.Source.left c.args.input.now) (g.S.Source.left c.read_next.new.input)) c.stopped-in-Err.ensures
     (λ is. over_limit c.in-Ok.cutter c.read_next.new.cutter bytes (g.S.Source.left c.args.input.now) (g.S.Source.left c.read_next.new.input) c.in-Ok.ensures.fresh all (c.in-Err.ensures.limited is).full whole)
@@ -68,8 +82,8 @@ returns-in-Ok-None-clause-ends g c = λ state keeps fresh told says.
     → NextCommandIs c.loop-stop.cutter c.read_next.new.cutter (g.S.Source.left c.read_next.new.input) lines None = λ tells.
     rw c.in-Ok-None.field-0-is at (c.in-Ok-None.ensures.next (subst (λ (b : Bool). IsTrue b) (sym was.tells) tells) (was.seen tells)) in (
       so.done,
-      comes_ended (g.S.Source.tells c.args.input.now) (g.S.Source.left c.args.input.now) (g.W.Disk.outside c.args.site.now) (g.W.Disk.outside c.loop-stop.site) told state
-          c.loop-stop.session c.loop-stop.tally c.loop-stop.cutter (g.S.Source.left c.loop-stop.input) so c.ended.result c.ended.ensures fresh says c.read_next.new.cutter (g.S.Source.left c.read_next.new.input) none,
+      comes_ended (g.S.Source.tells c.args.input.now) (g.S.Source.left c.args.input.now) (g.W.Disk.outside c.args.site.now) (g.W.Disk.outside c.loop-stop.site) state
+          c.loop-stop.session c.loop-stop.tally c.loop-stop.cutter (g.S.Source.left c.loop-stop.input) so c.ended.result c.ended.ensures fresh says c.read_next.new.cutter (g.S.Source.left c.read_next.new.input) none (g.S.Source.left c.read_next.new.input),
     )
 
 pub returns-in-Ok-None-clause-all : goal.returns-in-Ok-None-clause-all
@@ -124,9 +138,9 @@ returns-in-Err-do_command-clause-ends g c = λ state keeps fresh told says.
     rw c.in-Ok-Some.field-0-is at (c.in-Ok-Some.ensures.next (subst (λ (b : Bool). IsTrue b) (sym was.tells) tells) (was.seen tells)) in
     let does : StepsFrom (change_of now then) here asked (Err c.in-Err-do_command.stop) = c.in-Err-do_command.ensures.steps here so.keeps told_now says_now in (
       so.done,
-      comes_stepped (g.S.Source.tells c.args.input.now) (g.S.Source.left c.args.input.now) before now told state c.loop-stop.session c.loop-stop.tally c.loop-stop.cutter (g.S.Source.left c.loop-stop.input) so
-          asked of_script c.read_next.new.cutter (g.S.Source.left c.read_next.new.input) gives then c.stopped-in-Err-do_command.result c.in-Err-do_command.stop c.stopped-in-Err-do_command.ensures fresh says
-          c.in-Err-do_command.ensures.why does,
+      comes_stepped (g.S.Source.tells c.args.input.now) (g.S.Source.left c.args.input.now) before now state c.loop-stop.session c.loop-stop.tally c.loop-stop.cutter (g.S.Source.left c.loop-stop.input) so
+          asked of_script c.read_next.new.cutter (g.S.Source.left c.read_next.new.input) gives (λ tells. (c.in-Ok-Some.ensures.taken.1 (subst (λ (b : Bool). IsTrue b) (sym was.tells) tells)).1.ended) then c.stopped-in-Err-do_command.result c.in-Err-do_command.stop c.stopped-in-Err-do_command.ensures fresh says
+          c.in-Err-do_command.ensures.why does (g.S.Source.left c.read_next.new.input),
     )
 
 pub loop-stop-smaller : goal.loop-stop-smaller
@@ -158,8 +172,8 @@ loop-stop-preserved g c =
           let told_now : IsTrue now.tells_folder = subst (λ (b : Bool). IsTrue b) (sym was.telling.folder) told in
           let says_now : FolderSays now.folder here = done_says before now told state so.done says so.steps in
           let does : StepsFrom (change_of now then) here asked (Ok c.in-Ok-do_command.kind) = c.in-Ok-do_command.ensures.steps here so.keeps told_now says_now in
-          so_far_more (g.S.Source.tells c.args.input.now) (g.S.Source.left c.args.input.now) before now told state c.loop-stop.session c.loop-stop.tally c.loop-stop.cutter (g.S.Source.left c.loop-stop.input) so
-          asked of_script c.read_next.new.cutter (g.S.Source.left c.read_next.new.input) gives then c.in-Ok-do_command.kind c.do_command.new.session c.count.new.self does (c.in-Ok-do_command.ensures.keeps here so.keeps) c.count.ensures;
+          so_far_more (g.S.Source.tells c.args.input.now) (g.S.Source.left c.args.input.now) before now state c.loop-stop.session c.loop-stop.tally c.loop-stop.cutter (g.S.Source.left c.loop-stop.input) so
+          asked of_script c.read_next.new.cutter (g.S.Source.left c.read_next.new.input) gives (λ tells. (c.in-Ok-Some.ensures.taken.1 (tells_then tells)).1.ended) then c.in-Ok-do_command.kind c.do_command.new.session c.count.new.self does (c.in-Ok-do_command.ensures.keeps here so.keeps) c.count.ensures;
       telling = telling_on was.telling c.in-Ok-do_command.ensures.tells;
       disk = c.in-Ok-do_command.ensures.disk ∙ was.disk;
       say = c.in-Ok-do_command.ensures.say ∙ was.say;
@@ -177,7 +191,7 @@ loop-stop-preserved g c =
           let first = was.taken tells in
           let took = c.in-Ok-Some.ensures.taken.1 (tells_then tells) in (
             first.0 ++ took.0,
-            took-took c.in-Ok.cutter c.loop-stop.cutter c.read_next.new.cutter first.0 took.0 first.1 took.1.taken took.1.limit,
+            took-took c.in-Ok.cutter c.loop-stop.cutter c.read_next.new.cutter first.0 took.0 first.1 took.1,
             left-left (g.S.Source.left c.args.input.now) first.0 took.0 (g.S.Source.left c.loop-stop.input) (g.S.Source.left c.read_next.new.input) first.2 took.2,
           );
       counted = omega (arith, was.counted, rises, ap (λ (t : Tally). t.done) c.count.ensures);

@@ -24,7 +24,7 @@ returns-in-Ok-clause-ends g c = λ told.
     let (state, keeps, fresh, says) = c.in-Ok.ensures.says told in
     let comes = c.do_commands.ensures.ends state keeps fresh (subst (λ (b : Bool). IsTrue b) (sym reads.telling) told)
     (subst (λ (f : Folder). FolderSays f state) (sym (reads.folder told)) says) in
-    ends_opened before opened (g.W.Disk.outside c.do_commands.new.site) (asking run_words (g.S.Source.tells c.args.input.now) (g.S.Source.left c.args.input.now))
+    ends_opened before opened (g.W.Disk.outside c.do_commands.new.site) (asking run_words (g.S.Source.tells c.args.input.now) (g.S.Source.left c.args.input.now)) (g.S.Source.left c.do_commands.new.input)
     c.do_commands.result state comes.0 told (record { all = reads_all _ before opened reads; settles = c.in-Ok.ensures.settles }) comes.1
 
 pub returns-in-Ok-clause-causes : goal.returns-in-Ok-clause-causes
@@ -35,11 +35,11 @@ returns-in-Ok-clause-causes g c =
     let outcome = c.do_commands.result in
     let reads = c.in-Ok.ensures.reads in
     let does = c.do_commands.ensures in
-    let ends : IsTrue before.tells_folder → Ends (change_of before after) (asking run_words (g.S.Source.tells c.args.input.now) (g.S.Source.left c.args.input.now)) outcome = λ told.
+    let ends : IsTrue before.tells_folder → Ends (change_of before after) (asking run_words (g.S.Source.tells c.args.input.now) (g.S.Source.left c.args.input.now)) (g.S.Source.left c.do_commands.new.input) outcome = λ told.
     let (state, keeps, fresh, says) = c.in-Ok.ensures.says told in
     let comes = does.ends state keeps fresh (subst (λ (b : Bool). IsTrue b) (sym reads.telling) told)
     (subst (λ (f : Folder). FolderSays f state) (sym (reads.folder told)) says) in
-    ends_opened before opened after (asking run_words (g.S.Source.tells c.args.input.now) (g.S.Source.left c.args.input.now)) outcome state comes.0 told (record { all = reads_all _ before opened reads; settles = c.in-Ok.ensures.settles }) comes.1 in
+    ends_opened before opened after (asking run_words (g.S.Source.tells c.args.input.now) (g.S.Source.left c.args.input.now)) (g.S.Source.left c.do_commands.new.input) outcome state comes.0 told (record { all = reads_all _ before opened reads; settles = c.in-Ok.ensures.settles }) comes.1 in
     cause_script before after (g.S.Source.tells c.args.input.now) (g.S.Source.left c.args.input.now) (g.S.Source.left c.do_commands.new.input) (g.S.Source.faults c.args.input.now) (g.S.Source.faults c.do_commands.new.input)
     outcome does.why
     (subst (λ (n : ℕ). CountsFault (is_stop_and is_disk_fault outcome.stop) n after.disk_faults) reads.counts does.disk)

@@ -7,7 +7,7 @@ use Rattle.ts_store.specs.Stops.{kind_of}
 use Rattle.ts_cli.specs.Change.{LeavesAll, change_of}
 use Rattle.ts_cli.specs.Ends.{StepsFrom}
 use Rattle.ts_cli.proofs.SingleLaws.{comes_of}
-use Rattle.ts_cli.proofs.StepsLemmas.{changes_once, kind_only, reads_all}
+use Rattle.ts_cli.proofs.StepsLemmas.{kind_only, reads_all}
 use Rattle.ts_cli.proofs.single.step.Goals as goal
 
 pub returns-clause-ends : goal.returns-clause-ends
@@ -29,7 +29,7 @@ returns-clause-ends g c = λ told.
       says_after = c.step.ensures.says state keeps told_then says_then;
       stands_after = c.step.ensures.stands state keeps told_then;
       telling = c.step.ensures.tells;
-      crash = λ honest. changes_once c.step.result middle.crash new.crash (c.step.ensures.crash keeps.unspent honest);
+      crash = c.step.ensures.crash keeps.unspent;
       safe = c.step.ensures.safe state keeps;
     } in
     comes_of (change_of old new) asked c.step.result state (c.step.ensures.why keeps.unspent) (record { fresh = fresh; says = says; opened = middle; opens = record { all = all; settles = opened.settles }; steps = does })

@@ -1,6 +1,6 @@
 use Rattle.std.proofs.Common.{◌≡◌, ◌++◌, ◌+◌, true, [], IsTrue, refl, ◌∙◌, arith}
 use Rattle.ts_script.specs.Cutting.{view_of, GivesLine, HasEnded, HasSeenAll, IsStopped}
-use Rattle.ts_script.proofs.CuttingLemmas.{next-line, next-none, left-left, took-took, ended-left}
+use Rattle.ts_script.proofs.CuttingLemmas.{next-line, next-none, ended-left, left-left, took-bytes, took-end, took-line, took-nothing, took-took}
 use Rattle.ts_script.proofs.BodySoFar.{read-one, read-all, read-some}
 use Rattle.ts_script.proofs.body.read_body.Goals as goal
 
@@ -11,7 +11,7 @@ loop-body-init g c = record {
   ended = λ told seen. seen;
   lines = λ told seen lines is. record { done = []; rest = lines; parts = refl; to_come = is; number = omega arith; read = c.new-body.ensures c.args.cutter.now.number };
   some = ([], omega arith, c.new-body.ensures c.args.cutter.now.number);
-  taken = ([], record { taken = omega arith; limit = refl }, λ told. refl);
+  taken = ([], took-nothing c.args.cutter.now, λ told. refl);
 }
 
 pub loop-body-preserved : goal.loop-body-preserved
@@ -41,7 +41,7 @@ loop-body-preserved g c =
           was.some gives number c.in_ok-add.ensures;
       taken = (
         was.taken.0 ++ follows.0,
-        took-took c.args.cutter.now cur after was.taken.0 follows.0 was.taken.1 gives.taken gives.limit,
+        took-line c.args.cutter.now cur after was.taken.0 follows.0 (view_of c.in-Some.line) was.taken.1 gives,
         λ told. left-left (g.S.Source.left c.args.input.now) was.taken.0 follows.0 left rest (was.taken.2 told) (follows.2.1 (rw was.tells told)),
       );
     }
@@ -87,7 +87,7 @@ returns-clause-taken g c =
       follows.2.0 ∙ was.tells,
       λ told. (
         was.taken.0 ++ follows.0,
-        took-took c.args.cutter.now cur after was.taken.0 follows.0 was.taken.1 ends.taken ends.limit,
+        took-end c.args.cutter.now cur after was.taken.0 follows.0 was.taken.1 ends,
         left-left (g.S.Source.left c.args.input.now) was.taken.0 follows.0 (g.S.Source.left c.loop-body.input) (g.S.Source.left c.next.new.input) (was.taken.2 told) (follows.2.1 (rw was.tells told)),
       ),
     )
@@ -102,7 +102,7 @@ returns-in_err-line-clause-taken g c =
       follows.2.0 ∙ was.tells,
       λ told. (
         was.taken.0 ++ follows.0,
-        took-took c.args.cutter.now cur after was.taken.0 follows.0 was.taken.1 stops.takes.taken stops.takes.limit,
+        took-bytes c.args.cutter.now cur after was.taken.0 follows.0 was.taken.1 stops.takes,
         left-left (g.S.Source.left c.args.input.now) was.taken.0 follows.0 (g.S.Source.left c.loop-body.input) (g.S.Source.left c.next.new.input) (was.taken.2 told) (follows.2.1 (rw was.tells told)),
       ),
     )
@@ -117,7 +117,7 @@ returns-in_err-add-clause-taken g c =
       follows.2.0 ∙ was.tells,
       λ told. (
         was.taken.0 ++ follows.0,
-        took-took c.args.cutter.now cur after was.taken.0 follows.0 was.taken.1 gives.taken gives.limit,
+        took-line c.args.cutter.now cur after was.taken.0 follows.0 (view_of c.in-Some.line) was.taken.1 gives,
         left-left (g.S.Source.left c.args.input.now) was.taken.0 follows.0 (g.S.Source.left c.loop-body.input) (g.S.Source.left c.next.new.input) (was.taken.2 told) (follows.2.1 (rw was.tells told)),
       ),
     )

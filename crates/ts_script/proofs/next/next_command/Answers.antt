@@ -4,8 +4,10 @@ use Rattle.ts_script.specs.Script.{IsPassedOver, LineIs}
 use Rattle.ts_script.specs.declared.head.Head.{Head}
 use Rattle.ts_script.specs.declared.head.Head.TheVariants.{Whole, Awaits}
 use Rattle.ts_script.specs.declared.script_line.ScriptLine.TheVariants.{PassedOver, Overlong, NoCommand, Heads}
-use Rattle.ts_script.proofs.CuttingLemmas.{next-line, next-none, left-left, took-took, ended-left}
-use Rattle.ts_script.proofs.NextLemmas.{SeenAs, gives-line, gives-body, gives-none, wants-memory, stop-wants, some-line, some-body, finished_takes}
+use Rattle.ts_script.proofs.CuttingLemmas.{next-line, next-none, ended-left, left-left, took-bytes, took-end, took-line, took-nothing, took-took}
+use Rattle.ts_script.proofs.BodyUpTo.{stop-waits}
+use Rattle.ts_script.specs.Next.{WaitsForMore}
+use Rattle.ts_script.proofs.NextLemmas.{waits-between, waits-body, SeenAs, gives-line, gives-body, gives-none, wants-memory, stop-wants, some-line, some-body, finished_takes}
 use Rattle.ts_script.proofs.ScriptSoFar.{up_to-more, have_read-more}
 use Rattle.ts_script.proofs.next.next_command.Goals as goal
 
@@ -36,7 +38,7 @@ loop-line-preserved g c =
       lazy = λ same. absurd (omega (arith, same, gives.number, count));
       taken = (
         was.taken.0 ++ follows.0,
-        took-took c.args.cutter.now cur after was.taken.0 follows.0 was.taken.1 gives.taken gives.limit,
+        took-line c.args.cutter.now cur after was.taken.0 follows.0 (view_of c.in-Some.line) was.taken.1 gives,
         λ told. left-left (g.S.Source.left c.args.input.now) was.taken.0 follows.0 left rest (was.taken.2 told) (follows.2.1 (rw was.tells told)),
       );
     }
@@ -86,7 +88,7 @@ returns-in-Overlong-clause-taken g c =
       follows.2.0 ∙ was.tells,
       λ told. (
         was.taken.0 ++ follows.0,
-        took-took c.args.cutter.now cur after was.taken.0 follows.0 was.taken.1 gives.taken gives.limit,
+        took-line c.args.cutter.now cur after was.taken.0 follows.0 (view_of c.in-Some.line) was.taken.1 gives,
         left-left (g.S.Source.left c.args.input.now) was.taken.0 follows.0 left rest (was.taken.2 told) (follows.2.1 (rw was.tells told)),
       ),
     )
@@ -136,7 +138,7 @@ returns-in-NoCommand-clause-taken g c =
       follows.2.0 ∙ was.tells,
       λ told. (
         was.taken.0 ++ follows.0,
-        took-took c.args.cutter.now cur after was.taken.0 follows.0 was.taken.1 gives.taken gives.limit,
+        took-line c.args.cutter.now cur after was.taken.0 follows.0 (view_of c.in-Some.line) was.taken.1 gives,
         left-left (g.S.Source.left c.args.input.now) was.taken.0 follows.0 left rest (was.taken.2 told) (follows.2.1 (rw was.tells told)),
       ),
     )
@@ -186,7 +188,7 @@ returns-in-Heads-Whole-clause-taken g c =
       follows.2.0 ∙ was.tells,
       λ told. (
         was.taken.0 ++ follows.0,
-        took-took c.args.cutter.now cur after was.taken.0 follows.0 was.taken.1 gives.taken gives.limit,
+        took-line c.args.cutter.now cur after was.taken.0 follows.0 (view_of c.in-Some.line) was.taken.1 gives,
         left-left (g.S.Source.left c.args.input.now) was.taken.0 follows.0 left rest (was.taken.2 told) (follows.2.1 (rw was.tells told)),
       ),
     )
@@ -262,7 +264,7 @@ returns-in_err-body-in-Heads-Awaits-clause-taken g c =
           let taken = body.1 (rw (follows.2.0 ∙ was.tells) told) in (
             (was.taken.0 ++ follows.0) ++ taken.0,
             took-took c.args.cutter.now after c.read_script_body.new.cutter (was.taken.0 ++ follows.0) taken.0
-                (took-took c.args.cutter.now cur after was.taken.0 follows.0 was.taken.1 gives.taken gives.limit) taken.1.taken taken.1.limit,
+                (took-line c.args.cutter.now cur after was.taken.0 follows.0 (view_of c.in-Some.line) was.taken.1 gives) taken.1,
             left-left (g.S.Source.left c.args.input.now) (was.taken.0 ++ follows.0) taken.0 rest (g.S.Source.left c.read_script_body.new.input)
                 (left-left (g.S.Source.left c.args.input.now) was.taken.0 follows.0 left rest (was.taken.2 told) (follows.2.1 (rw was.tells told))) taken.2,
           ),
@@ -284,7 +286,7 @@ returns-in-Heads-Awaits-clause-taken g c =
           let taken = body.1 (rw (follows.2.0 ∙ was.tells) told) in (
             (was.taken.0 ++ follows.0) ++ taken.0,
             took-took c.args.cutter.now after c.read_script_body.new.cutter (was.taken.0 ++ follows.0) taken.0
-                (took-took c.args.cutter.now cur after was.taken.0 follows.0 was.taken.1 gives.taken gives.limit) taken.1.taken taken.1.limit,
+                (took-line c.args.cutter.now cur after was.taken.0 follows.0 (view_of c.in-Some.line) was.taken.1 gives) taken.1,
             left-left (g.S.Source.left c.args.input.now) (was.taken.0 ++ follows.0) taken.0 rest (g.S.Source.left c.read_script_body.new.input)
                 (left-left (g.S.Source.left c.args.input.now) was.taken.0 follows.0 left rest (was.taken.2 told) (follows.2.1 (rw was.tells told))) taken.2,
           ),
@@ -315,7 +317,7 @@ returns-clause-taken g c =
       follows.2.0 ∙ was.tells,
       λ told. (
         was.taken.0 ++ follows.0,
-        took-took c.args.cutter.now cur after was.taken.0 follows.0 was.taken.1 ends.taken ends.limit,
+        took-end c.args.cutter.now cur after was.taken.0 follows.0 was.taken.1 ends,
         left-left (g.S.Source.left c.args.input.now) was.taken.0 follows.0 left rest (was.taken.2 told) (follows.2.1 (rw was.tells told)),
       ),
     )
@@ -332,7 +334,7 @@ returns-in_err-line-clause-taken g c =
       follows.2.0 ∙ was.tells,
       λ told. (
         was.taken.0 ++ follows.0,
-        took-took c.args.cutter.now cur after was.taken.0 follows.0 was.taken.1 stops.takes.taken stops.takes.limit,
+        took-bytes c.args.cutter.now cur after was.taken.0 follows.0 was.taken.1 stops.takes,
         left-left (g.S.Source.left c.args.input.now) was.taken.0 follows.0 left rest (was.taken.2 told) (follows.2.1 (rw was.tells told)),
       ),
     )
@@ -350,7 +352,7 @@ returns-in_err-read_script_line-clause-taken g c =
       follows.2.0 ∙ was.tells,
       λ told. (
         was.taken.0 ++ follows.0,
-        took-took c.args.cutter.now cur after was.taken.0 follows.0 was.taken.1 gives.taken gives.limit,
+        took-line c.args.cutter.now cur after was.taken.0 follows.0 (view_of c.in-Some.line) was.taken.1 gives,
         left-left (g.S.Source.left c.args.input.now) was.taken.0 follows.0 left rest (was.taken.2 told) (follows.2.1 (rw was.tells told)),
       ),
     )
@@ -392,3 +394,13 @@ returns-in_err-body-in-Heads-Awaits-clause-memory g c = λ told seen lines is.
     (next-line cur after follows.0 left rest (view_of c.in-Some.line) gives (follows.2.1 (rw was.tells told)) (ended told seen))
     (λ bytes e. inr (c.in-Heads-Awaits.opening, (seen_as bytes e).1)) lines is in
     stop-wants c.from_residual-in_err-body-in-Heads-Awaits.result lines wants
+
+pub returns-in_err-line-clause-waits : goal.returns-in_err-line-clause-waits
+returns-in_err-line-clause-waits g c = λ told seen lines is.
+    let was = c.loop-line.invariant in
+    let cur = c.loop-line.cutter in
+    let after = c.next.follows.lender-at-none in
+    let follows = c.next.follows.holds-at-none in
+    let stops : IsStopped cur after follows.0 c.in_err-line.field-0.0 = rw c.in_err-line.was at follows.1 in
+    stop-waits c.from_residual-in_err-line.result (WaitsForMore c.args.cutter.now after lines)
+    (waits-between c.args.cutter.now cur after (g.S.Source.left c.args.input.now) (g.S.Source.left c.loop-line.input) (was.lines told seen) stops.takes.number stops.waits stops.unended lines is)

@@ -1,7 +1,8 @@
 use Rattle.std.proofs.Common.{◌≡◌, ◌++◌, ◌+◌, true, [], IsTrue, refl, ◌∙◌, arith}
 use Rattle.ts_script.specs.Cutting.{view_of, GivesLine, HasEnded, HasSeenAll, IsStopped}
-use Rattle.ts_script.proofs.CuttingLemmas.{next-line, next-none, left-left, took-took, ended-left}
-use Rattle.ts_script.proofs.BodyUpTo.{body-more, body-closed, body-open, some-more, some-closed, some-open, ends-by, goes_on-by}
+use Rattle.ts_script.specs.Next.{WaitsForEnd}
+use Rattle.ts_script.proofs.CuttingLemmas.{next-line, next-none, ended-left, left-left, took-bytes, took-end, took-line, took-nothing, took-took}
+use Rattle.ts_script.proofs.BodyUpTo.{body-waits, stop-waits, body-more, body-closed, body-open, some-more, some-closed, some-open, ends-by, goes_on-by}
 use Rattle.ts_script.proofs.script_body.read_script_body.Goals as goal
 
 pub loop-body-init : goal.loop-body-init
@@ -12,7 +13,7 @@ loop-body-init g c = record {
   lines = λ told seen lines is. record { done = []; rest = lines; parts = refl; to_come = is; number = omega arith; goes_on = tt; read = c.new-body.ensures c.args.cutter.now.number };
   some = record { done = []; count = omega arith; goes_on = tt; read = c.new-body.ensures c.args.cutter.now.number };
   offset = omega arith;
-  taken = ([], record { taken = omega arith; limit = refl }, λ told. refl);
+  taken = ([], took-nothing c.args.cutter.now, λ told. refl);
 }
 
 pub loop-body-preserved : goal.loop-body-preserved
@@ -43,7 +44,7 @@ loop-body-preserved g c =
       offset = omega (arith, was.offset, gives.offset);
       taken = (
         was.taken.0 ++ follows.0,
-        took-took c.args.cutter.now cur after was.taken.0 follows.0 was.taken.1 gives.taken gives.limit,
+        took-line c.args.cutter.now cur after was.taken.0 follows.0 (view_of c.in-Some.line) was.taken.1 gives,
         λ told. left-left (g.S.Source.left c.args.input.now) was.taken.0 follows.0 left rest (was.taken.2 told) (follows.2.1 (rw was.tells told)),
       );
     }
@@ -84,7 +85,7 @@ returns-then-ends_body-clause-taken g c =
       follows.2.0 ∙ was.tells,
       λ told. (
         was.taken.0 ++ follows.0,
-        took-took c.args.cutter.now cur after was.taken.0 follows.0 was.taken.1 gives.taken gives.limit,
+        took-line c.args.cutter.now cur after was.taken.0 follows.0 (view_of c.in-Some.line) was.taken.1 gives,
         left-left (g.S.Source.left c.args.input.now) was.taken.0 follows.0 (g.S.Source.left c.loop-body.input) (g.S.Source.left c.next.new.input) (was.taken.2 told) (follows.2.1 (rw was.tells told)),
       ),
     )
@@ -101,7 +102,7 @@ returns-clause-body g c = λ told seen.
     let ends : HasEnded cur after follows.0 = rw (c.in_ok-line.was, c.in_default.is) at follows.1 in
     let none : rest ≡ [] = ended-left cur.has_ended after.has_ended left follows.0 rest (was.ended told seen) (λ opened ends. follows.3 opened ends tells) (follows.2.1 tells) ends.ended in
     body-open c.args.cutter.now cur after (g.S.Source.left c.args.input.now) left rest c.loop-body.body.signed.items c.loop-body.body.fault c.into_read-2.result
-    (was.lines told seen) (next-none cur after follows.0 left rest ends (follows.2.1 tells) none) ends.after ends.number none c.into_read-2.ensures
+    (was.lines told seen) (next-none cur after follows.0 left rest ends (follows.2.1 tells) none) ends.after ends.number ends.ended none c.into_read-2.ensures
 
 pub returns-clause-some : goal.returns-clause-some
 returns-clause-some g c =
@@ -121,7 +122,7 @@ returns-clause-taken g c =
       follows.2.0 ∙ was.tells,
       λ told. (
         was.taken.0 ++ follows.0,
-        took-took c.args.cutter.now cur after was.taken.0 follows.0 was.taken.1 ends.taken ends.limit,
+        took-end c.args.cutter.now cur after was.taken.0 follows.0 was.taken.1 ends,
         left-left (g.S.Source.left c.args.input.now) was.taken.0 follows.0 (g.S.Source.left c.loop-body.input) (g.S.Source.left c.next.new.input) (was.taken.2 told) (follows.2.1 (rw was.tells told)),
       ),
     )
@@ -136,7 +137,7 @@ returns-in_err-line-clause-taken g c =
       follows.2.0 ∙ was.tells,
       λ told. (
         was.taken.0 ++ follows.0,
-        took-took c.args.cutter.now cur after was.taken.0 follows.0 was.taken.1 stops.takes.taken stops.takes.limit,
+        took-bytes c.args.cutter.now cur after was.taken.0 follows.0 was.taken.1 stops.takes,
         left-left (g.S.Source.left c.args.input.now) was.taken.0 follows.0 (g.S.Source.left c.loop-body.input) (g.S.Source.left c.next.new.input) (was.taken.2 told) (follows.2.1 (rw was.tells told)),
       ),
     )
@@ -151,7 +152,18 @@ returns-in_err-add-clause-taken g c =
       follows.2.0 ∙ was.tells,
       λ told. (
         was.taken.0 ++ follows.0,
-        took-took c.args.cutter.now cur after was.taken.0 follows.0 was.taken.1 gives.taken gives.limit,
+        took-line c.args.cutter.now cur after was.taken.0 follows.0 (view_of c.in-Some.line) was.taken.1 gives,
         left-left (g.S.Source.left c.args.input.now) was.taken.0 follows.0 (g.S.Source.left c.loop-body.input) (g.S.Source.left c.next.new.input) (was.taken.2 told) (follows.2.1 (rw was.tells told)),
       ),
     )
+
+pub returns-in_err-line-clause-waits : goal.returns-in_err-line-clause-waits
+returns-in_err-line-clause-waits g c = λ told seen lines is.
+    let was = c.loop-body.invariant in
+    let cur = c.loop-body.cutter in
+    let after = c.next.follows.lender-at-none in
+    let follows = c.next.follows.holds-at-none in
+    let stops : IsStopped cur after follows.0 c.in_err-line.field-0.0 = rw c.in_err-line.was at follows.1 in
+    stop-waits c.from_residual-in_err-line.result (WaitsForEnd c.args.cutter.now after lines)
+    (body-waits c.args.cutter.now cur after (g.S.Source.left c.args.input.now) (g.S.Source.left c.loop-body.input) c.loop-body.body.signed.items c.loop-body.body.fault
+    (was.lines told seen) stops.takes.number stops.waits stops.unended lines is)

@@ -45,6 +45,7 @@ returns-in-Err-clause-next g c =
       record {
         takes = takes-takes c.args.self.now c.whole_line.new.self c.fill.new.self so_far.0 more.0 kept more.1.takes;
         waits = more.1.cause.1;
+        unended = more.1.cause.2;
         limited = λ is. absurd (fault_is_not_limit (sym more.1.cause.0 ∙ is));
       },
       (
