@@ -1,5 +1,5 @@
 -- What a call of a site in memory leaves, also where it fails by plan.
-use Rattle.std.proofs.Common.{◌≡◌, ◌⊎◌, ◌≤◌, ◌+◌, ◌-◌, ◌/◌, ◌^◌, min, Bool, true, false, ℕ, List, [], ◌∷◌, ◌++◌, length, take, take_all, Option, None, Some, Result, Ok, Err, MatchResult, refl, sym, ap, subst, ◌∙◌, inl, inr, arith, append-nil}
+use Rattle.std.proofs.Common.{◌≡◌, ◌⊎◌, ◌≤◌, ◌+◌, ◌-◌, ◌/◌, ◌^◌, min, Bool, true, false, ℕ, List, [], ◌∷◌, ◌++◌, length, take, take_all, IsTrue, Option, None, Some, Result, Ok, Err, MatchResult, refl, sym, ap, subst, ◌∙◌, inl, inr, arith, append-nil}
 use Rattle.std.specs.Prelude.{is_err, IsOkAnd, IfOk, IfErr, MatchBool, MatchOption}
 use Rattle.std.specs.FinMap.{get, insert}
 use Rattle.std.proofs.lemmas.List.Elements.{All-cons, All-nil}
@@ -12,10 +12,10 @@ use Rattle.ts_site.specs.Crash.{CrashState, AddsNone, written}
 use Rattle.ts_site.specs.Folder.{Folder, IsAnyAt, IsEither, Writes, Renames, Extends, appended, appended_file}
 use Rattle.ts_site.specs.Faults.{CountsFault, is_err_and, is_list_fault}
 use Rattle.ts_site.specs.Left.{first_half}
-use Rattle.ts_site.specs.Moments.{Moment, GoesOn, IsChangedOrNot, Changes, Settles}
-use Rattle.ts_site.specs.Outside.{Outside, moments_of, IsSameOutput, OnlyDisk, OnlyReads, KeepsCrash, ChangesCrash, SettlesCrash, SaysOn}
+use Rattle.ts_site.specs.Moments.{Moment, GoesOn, IsChangedOrNot, Changes}
+use Rattle.ts_site.specs.Outside.{moments_of, IsSameOutput, OnlyDisk, OnlyReads, KeepsCrash, ChangesCrash, SettlesCrash, SaysOn, OnlySays}
 use Rattle.ts_site.specs.Recorder.{MemoryState, has_room, one_more, present, changed, said, used, refused, disk_fault, say_fault, after_append, MakesDiskCall, MakesSayCall, spoiled, spoiled_say}
-use Rattle.ts_site.specs.MemorySite.{DoesDiskCall, DoesSettlingCall, DoesSayCall, FailsByPlan, left_by, state_after_reading, after_create, after_settling}
+use Rattle.ts_site.specs.MemorySite.{DoesDiskCall, DoesSayCall, FailsByPlan, left_by, seen, state_after_reading, after_create, after_settling}
 use Rattle.ts_site.specs.Output.{Says}
 use Rattle.ts_site.proofs.CrashLemmas.{adds_none, adds_none_same}
 use Rattle.ts_site.proofs.FolderLemmas.{get-insert_same}
@@ -39,20 +39,6 @@ matched_ok r P Q ok p = rw ok p
 
 failed_so : {E : Type 0} (r : Result (Unit {0}) E) (x : E) (P Q : Type 0) → r ≡ Err x → Q → MatchResult r (λ _. P) (λ _. Q)
 failed_so r x P Q err q = rw err q
-
--- what a state in memory tells
-abbrev pub seen : MemoryState → Outside
-seen state = record {
-  tells_folder = true;
-  folder = state.folder;
-  disk_faults = state.disk_faults;
-  tells_output = true;
-  told = state.told;
-  say_faults = state.say_faults;
-  tells_images = true;
-  crash = state.crash;
-  past = state.past;
-}
 
 -- the same of the folder, the output and what a crash leaves, whatever room there is and however many faults of the disk
 pub record SameView (one other : MemoryState) : Type 0 where
@@ -157,27 +143,18 @@ call_ended (Some how) r bytes all half old new h = either
     (λ e. ended_err r bytes (left_by how all half old) all half old new (left_is how all half old) h.0 e)
     (λ e. ended_refused r all half old new h.0 e) (has_room old bytes) h.1
 
-pub settling_ended : (plan : Option FaultKind) (r : Result (Unit {0}) Failed) (all old new : MemoryState) → DoesSettlingCall plan r all old new
-    → Ended r all old old new × (is_err r ≡ true → SameView old new)
-settling_ended None r all old new h = either
-    (λ h. (ended_ok r 0 all old old new h.0 h.1, λ err. absurd (not_ok r tt h.0 err)))
-    (λ h. (ended_refused r all old old new h.0 h.1, λ err. after_refused old new h.1)) (has_room old 0) h
-settling_ended (Some how) r all old new h = either
-    (λ e. (ended_err r 0 old all old old new (inr (inl refl)) h.0 e, λ err. after_used_fault 0 old new e))
-    (λ e. (ended_refused r all old old new h.0 e, λ err. after_refused old new e)) (has_room old 0) h.1
-
 -- moments that went on
 pub steps_to : (P : Moment → Type 0) (folder : Folder) (crash : CrashState) (old : MemoryState) → P (record { crash = crash; told = old.told })
-    → GoesOn P (moments_of (seen old)) (moments_of (seen (changed folder crash old)))
+    → GoesOn P (moments_of (seen false old)) (moments_of (seen false (changed folder crash old)))
 steps_to P folder crash old p = (record { crash = crash; told = old.told } ∷ [], refl, All-cons P (record { crash = crash; told = old.told }) [] p (All-nil P))
 
 pub stays : (P : Moment → Type 0) (moments : List Moment) → GoesOn P moments moments
 stays P moments = ([], refl, All-nil P)
 
-seen_same : (one other : MemoryState) → SameView one other → moments_of (seen other) ≡ moments_of (seen one)
+seen_same : (one other : MemoryState) → SameView one other → moments_of (seen false other) ≡ moments_of (seen false one)
 seen_same one other same = λ i. record { crash = same.crash i; told = same.told i } ∷ same.past i
 
-goes_to : (P : Moment → Type 0) (moments : List Moment) (one other : MemoryState) → SameView one other → GoesOn P moments (moments_of (seen one)) → GoesOn P moments (moments_of (seen other))
+goes_to : (P : Moment → Type 0) (moments : List Moment) (one other : MemoryState) → SameView one other → GoesOn P moments (moments_of (seen false one)) → GoesOn P moments (moments_of (seen false other))
 goes_to P moments one other same goes = subst (GoesOn P moments) (sym (seen_same one other same)) goes
 
 -- what holds of all that a call may have come to holds of what it came to
@@ -210,12 +187,12 @@ ended_match P Q r all half old new ended moves_p moves_q done a h o = view_match
 
 -- the moments that a call passed
 abbrev pub Went : (Moment → Type 0) → MemoryState → MemoryState → Type 0
-Went P old new = GoesOn P (moments_of (seen old)) (moments_of (seen new))
+Went P old new = GoesOn P (moments_of (seen false old)) (moments_of (seen false new))
 
 pub ended_moments : (P : Moment → Type 0) (r : Result (Unit {0}) Failed) (all half old new : MemoryState) → Ended r all half old new
     → Went P old all → Went P old half → Went P old new
 ended_moments P r all half old new ended a h =
-    ended_so (Went P old) r all half old new ended (goes_to P (moments_of (seen old))) a h (stays P (moments_of (seen old)))
+    ended_so (Went P old) r all half old new ended (goes_to P (moments_of (seen false old))) a h (stays P (moments_of (seen false old)))
 
 -- the output is as it was
 pub record SameOutput (old state : MemoryState) : Type 0 where
@@ -229,22 +206,26 @@ same_output folder crash old = record { told = refl; faults = refl; disk = refl 
 pub old_output : (old : MemoryState) → SameOutput old old
 old_output old = record { told = refl; faults = refl; disk = refl }
 
-pub ended_output : (r : Result (Unit {0}) Failed) (all half old new : MemoryState) → Ended r all half old new → SameOutput old all → SameOutput old half → IsSameOutput (seen old) (seen new)
-ended_output r all half old new ended a h = record {
-  same_telling = refl;
+pub ended_output : (was is : Bool) (r : Result (Unit {0}) Failed) (all half old new : MemoryState) → Ended r all half old new → SameOutput old all → SameOutput old half → IsSameOutput (seen was old) (seen is new)
+ended_output was is r all half old new ended a h = record {
   same_told = ended_so (λ (s : MemoryState). s.told ≡ old.told) r all half old new ended (λ one other same is. same.told ∙ is) a.told h.told refl;
   same_faults = ended_so (λ (s : MemoryState). s.say_faults ≡ old.say_faults) r all half old new ended (λ one other same is. same.say_faults ∙ is) a.faults h.faults refl;
 }
 
+-- the last call failed where the flag says so
+flagged : (fault is : Bool) → is ≡ fault → IsTrue fault → IsTrue is
+flagged fault is same failed = same ∙ failed
+
 -- a call that works on the disk alone
-pub ended_disk : (r : Result (Unit {0}) Failed) (all half old new : MemoryState) → Ended r all half old new → old.disk_faults ≤ 2 ^ 64 - 1 → SameOutput old all → SameOutput old half
+pub ended_disk : (was is : Bool) (r : Result (Unit {0}) Failed) (all half old new : MemoryState) → Ended r all half old new → old.disk_faults ≤ 2 ^ 64 - 1 → SameOutput old all → SameOutput old half
     → Went (λ moment. moment.told ≡ old.told) old all → Went (λ moment. moment.told ≡ old.told) old half
-    → OnlyDisk (is_err r) (seen old) (seen new)
-ended_disk r all half old new ended fits a h goes_a goes_h = record {
-  telling = refl;
+    → is ≡ is_err r → OnlyDisk (is_err r) (seen was old) (seen is new)
+ended_disk was is r all half old new ended fits a h goes_a goes_h last = record {
+  telling = λ honest. honest;
   counts = ended.counts fits a.disk h.disk;
-  output = ended_output r all half old new ended a h;
-  images = record { telling = refl; moments = λ _. ended_moments (λ moment. moment.told ≡ old.told) r all half old new ended goes_a goes_h };
+  last = flagged (is_err r) is last;
+  output = ended_output was is r all half old new ended a h;
+  images = record { telling = λ honest. honest; moments = ended_moments (λ moment. moment.told ≡ old.told) r all half old new ended goes_a goes_h };
 }
 
 same_at : (m : Folder) (k : List ℕ) (found : Option (List ℕ)) → get m k ≡ found → IsAnyAt k m m
@@ -299,7 +280,7 @@ PassedFile name old s = Went (λ moment. IsChangedOrNot (written name (get s.fol
 passed_file : (name : List ℕ) (old : MemoryState) → OfView (PassedFile name old)
 passed_file name old one other same went =
     subst (λ (folder : Folder). Went (λ moment. IsChangedOrNot (written name (get folder name) old.crash) old.crash moment.crash × (moment.told ≡ old.told)) old other) (sym same.folder)
-    (goes_to (λ moment. IsChangedOrNot (written name (get one.folder name) old.crash) old.crash moment.crash × (moment.told ≡ old.told)) (moments_of (seen old)) one other same went)
+    (goes_to (λ moment. IsChangedOrNot (written name (get one.folder name) old.crash) old.crash moment.crash × (moment.told ≡ old.told)) (moments_of (seen false old)) one other same went)
 
 -- the state that a file with this content in the folder comes to
 abbrev pub with_written : List ℕ → Folder → MemoryState → MemoryState
@@ -310,12 +291,12 @@ passes_written name folder old =
     steps_to (λ moment. IsChangedOrNot (written name (get folder name) old.crash) old.crash moment.crash × (moment.told ≡ old.told)) folder (written name (get folder name) old.crash) old (inl refl, refl)
 
 passes_none : (name : List ℕ) (old : MemoryState) → PassedFile name old old
-passes_none name old = stays (λ moment. IsChangedOrNot (written name (get old.folder name) old.crash) old.crash moment.crash × (moment.told ≡ old.told)) (moments_of (seen old))
+passes_none name old = stays (λ moment. IsChangedOrNot (written name (get old.folder name) old.crash) old.crash moment.crash × (moment.told ≡ old.told)) (moments_of (seen false old))
 
 -- a call that writes a file, of which nothing, half or all was done
-pub file_crash : (r : Result (Unit {0}) Failed) (name : List ℕ) (folder : Folder) (half old new : MemoryState) → Ended r (with_written name folder old) half old new
-    → IsWrittenSo name old.crash half → PassedFile name old half → ChangesCrash r (written name (get new.folder name) old.crash) (seen old) (seen new)
-file_crash r name folder half old new ended half_is half_passed = record {
+pub file_crash : (was is : Bool) (r : Result (Unit {0}) Failed) (name : List ℕ) (folder : Folder) (half old new : MemoryState) → Ended r (with_written name folder old) half old new
+    → IsWrittenSo name old.crash half → PassedFile name old half → ChangesCrash r (written name (get new.folder name) old.crash) (seen was old) (seen is new)
+file_crash was is r name folder half old new ended half_is half_passed = record {
   now = λ _. ended_changes_file r name (with_written name folder old) half old new ended refl half_is;
   moments = λ _. ended_so (PassedFile name old) r (with_written name folder old) half old new ended (passed_file name old) (passes_written name folder old) half_passed (passes_none name old);
 }
@@ -324,39 +305,39 @@ silent_written : (folder : Folder) (crash : CrashState) (old : MemoryState) → 
 silent_written folder crash old = steps_to (λ moment. moment.told ≡ old.told) folder crash old refl
 
 silent_none : (old : MemoryState) → Went (λ moment. moment.told ≡ old.told) old old
-silent_none old = stays (λ moment. moment.told ≡ old.told) (moments_of (seen old))
+silent_none old = stays (λ moment. moment.told ≡ old.told) (moments_of (seen false old))
 
 -- the calls of a disk, each with all that it has to tell
-pub create_told : (plan : Option FaultKind) (r : Result (Unit {0}) Failed) (name : List ℕ) (old new : MemoryState) → old.disk_faults ≤ 2 ^ 64 - 1
+pub create_told : (was is : Bool) (plan : Option FaultKind) (r : Result (Unit {0}) Failed) (name : List ℕ) (old new : MemoryState) → old.disk_faults ≤ 2 ^ 64 - 1 → is ≡ is_err r
     → DoesDiskCall plan r 0 (after_create name old) old old new
-    → Writes r name (insert old.folder name []) old.folder new.folder × ChangesCrash r (written name (get new.folder name) old.crash) (seen old) (seen new) × OnlyDisk (is_err r) (seen old) (seen new)
-create_told plan r name old new fits does =
+    → Writes r name (insert old.folder name []) old.folder new.folder × ChangesCrash r (written name (get new.folder name) old.crash) (seen was old) (seen is new) × OnlyDisk (is_err r) (seen was old) (seen is new)
+create_told was is plan r name old new fits last does =
     let folder = insert old.folder name [] in
     let same : after_create name old ≡ with_written name folder old = ap (λ content. changed folder (written name content old.crash) old) (sym (get-insert_same old.folder name [])) in
     let ended = subst (λ (all : MemoryState). Ended r all old old new) same (call_ended plan r 0 (after_create name old) old old new does) in (
       ended_writes r name (with_written name folder old) old old new ended (inr ([], refl)) (unchanged_at old.folder name),
-      file_crash r name folder old old new ended (inr refl) (passes_none name old),
-      ended_disk r (with_written name folder old) old old new ended fits (same_output folder (written name (get folder name) old.crash) old) (old_output old) (silent_written folder (written name (get folder name) old.crash) old) (silent_none old),
+      file_crash was is r name folder old old new ended (inr refl) (passes_none name old),
+      ended_disk was is r (with_written name folder old) old old new ended fits (same_output folder (written name (get folder name) old.crash) old) (old_output old) (silent_written folder (written name (get folder name) old.crash) old) (silent_none old) last,
     )
 
-pub append_told : (plan : Option FaultKind) (r : Result (Unit {0}) Failed) (bytes : ℕ) (name more : List ℕ) (old new : MemoryState) → old.disk_faults ≤ 2 ^ 64 - 1
+pub append_told : (was is : Bool) (plan : Option FaultKind) (r : Result (Unit {0}) Failed) (bytes : ℕ) (name more : List ℕ) (old new : MemoryState) → old.disk_faults ≤ 2 ^ 64 - 1 → is ≡ is_err r
     → DoesDiskCall plan r bytes (after_append name more old) (after_append name (first_half more) old) old new
-    → Writes r name (appended old.folder name more) old.folder new.folder × ChangesCrash r (written name (get new.folder name) old.crash) (seen old) (seen new) × OnlyDisk (is_err r) (seen old) (seen new)
-append_told plan r bytes name more old new fits does =
+    → Writes r name (appended old.folder name more) old.folder new.folder × ChangesCrash r (written name (get new.folder name) old.crash) (seen was old) (seen is new) × OnlyDisk (is_err r) (seen was old) (seen is new)
+append_told was is plan r bytes name more old new fits last does =
     let all = appended old.folder name more in
     let half = appended old.folder name (first_half more) in
     let ended = call_ended plan r bytes (after_append name more old) (after_append name (first_half more) old) old new does in (
       ended_writes r name (with_written name all old) (with_written name half old) old new ended (appended_at old.folder name more) (appended_at old.folder name (first_half more)),
-      file_crash r name all (with_written name half old) old new ended (inl refl) (passes_written name half old),
-      ended_disk r (with_written name all old) (with_written name half old) old new ended fits (same_output all (written name (get all name) old.crash) old) (same_output half (written name (get half name) old.crash) old)
-          (silent_written all (written name (get all name) old.crash) old) (silent_written half (written name (get half name) old.crash) old),
+      file_crash was is r name all (with_written name half old) old new ended (inl refl) (passes_written name half old),
+      ended_disk was is r (with_written name all old) (with_written name half old) old new ended fits (same_output all (written name (get all name) old.crash) old) (same_output half (written name (get half name) old.crash) old)
+          (silent_written all (written name (get all name) old.crash) old) (silent_written half (written name (get half name) old.crash) old) last,
     )
 
 -- a call that changes names
-pub names_told : (plan : Option FaultKind) (r : Result (Unit {0}) Failed) (folder : Folder) (crash : CrashState) (old new : MemoryState) → old.disk_faults ≤ 2 ^ 64 - 1
+pub names_told : (was is : Bool) (plan : Option FaultKind) (r : Result (Unit {0}) Failed) (folder : Folder) (crash : CrashState) (old new : MemoryState) → old.disk_faults ≤ 2 ^ 64 - 1 → is ≡ is_err r
     → DoesDiskCall plan r 0 (changed folder crash old) old old new
-    → Renames r folder old.folder new.folder × ChangesCrash r crash (seen old) (seen new) × OnlyDisk (is_err r) (seen old) (seen new)
-names_told plan r folder crash old new fits does =
+    → Renames r folder old.folder new.folder × ChangesCrash r crash (seen was old) (seen is new) × OnlyDisk (is_err r) (seen was old) (seen is new)
+names_told was is plan r folder crash old new fits last does =
     let ended = call_ended plan r 0 (changed folder crash old) old old new does in (
       ended_renames r (changed folder crash old) old new ended,
       record {
@@ -364,41 +345,39 @@ names_told plan r folder crash old new fits does =
             (λ one other same is. same.crash ∙ is) (λ one other same is. subst (IsChangedOrNot crash old.crash) (sym same.crash) is) refl (inl refl) (inr refl) (inr refl);
         moments = λ _. ended_moments (λ moment. IsChangedOrNot crash old.crash moment.crash × (moment.told ≡ old.told)) r (changed folder crash old) old old new ended
             (steps_to (λ moment. IsChangedOrNot crash old.crash moment.crash × (moment.told ≡ old.told)) folder crash old (inl refl, refl))
-            (stays (λ moment. IsChangedOrNot crash old.crash moment.crash × (moment.told ≡ old.told)) (moments_of (seen old)));
+            (stays (λ moment. IsChangedOrNot crash old.crash moment.crash × (moment.told ≡ old.told)) (moments_of (seen false old)));
       },
-      ended_disk r (changed folder crash old) old old new ended fits (same_output folder crash old) (old_output old) (silent_written folder crash old) (silent_none old),
+      ended_disk was is r (changed folder crash old) old old new ended fits (same_output folder crash old) (old_output old) (silent_written folder crash old) (silent_none old) last,
     )
 
-view_settles : (r : Result (Unit {0}) Failed) (crash : CrashState) (all old new : MemoryState) → Viewed r all old old new → all.crash ≡ crash → (is_err r ≡ true → SameView old new) → Settles r crash old.crash new.crash
-view_settles r crash all old new (inl v) is kept = matched_ok r (new.crash ≡ crash) (new.crash ≡ old.crash) v.0 (v.1.crash ∙ is)
-view_settles r crash all old new (inr v) is kept = failed_so r (record {}) (new.crash ≡ crash) (new.crash ≡ old.crash) v.0 ((kept (ap is_err v.0)).crash)
-
 -- a call that settles
-pub settling_told : (plan : Option FaultKind) (r : Result (Unit {0}) Failed) (crash : CrashState) (old new : MemoryState) → old.disk_faults ≤ 2 ^ 64 - 1
-    → AddsNone crash old.crash → DoesSettlingCall plan r (after_settling crash old) old new
-    → SettlesCrash r crash (seen old) (seen new) × OnlyReads (is_err r) (seen old) (seen new)
-settling_told plan r crash old new fits adds does =
+pub settling_told : (was is : Bool) (plan : Option FaultKind) (r : Result (Unit {0}) Failed) (crash : CrashState) (old new : MemoryState) → old.disk_faults ≤ 2 ^ 64 - 1 → is ≡ is_err r
+    → AddsNone crash old.crash → DoesDiskCall plan r 0 (after_settling crash old) old old new
+    → SettlesCrash r crash (seen was old) (seen is new) × OnlyReads (is_err r) (seen was old) (seen is new)
+settling_told was is plan r crash old new fits last adds does =
     let all = after_settling crash old in
-    let both = settling_ended plan r all old new does in
-    let ended = both.0 in (
-      λ _. view_settles r crash all old new ended.view refl both.1,
+    let ended = call_ended plan r 0 all old old new does in (
+      λ _. ended_match (λ (s : MemoryState). s.crash ≡ crash) (λ (s : MemoryState). IsChangedOrNot crash old.crash s.crash) r all old old new ended
+          (λ one other same is. same.crash ∙ is) (λ one other same is. subst (IsChangedOrNot crash old.crash) (sym same.crash) is) refl (inl refl) (inr refl) (inr refl),
       record {
-        telling = refl;
+        telling = λ honest. honest;
         folder = λ _. ended_so (λ (s : MemoryState). s.folder ≡ old.folder) r all old old new ended (λ one other same is. same.folder ∙ is) refl refl refl;
         counts = ended.counts fits refl refl;
-        output = ended_output r all old old new ended (same_output old.folder crash old) (old_output old);
+        last = flagged (is_err r) is last;
+        output = ended_output was is r all old old new ended (same_output old.folder crash old) (old_output old);
         images = record {
-          telling = refl;
+          telling = λ honest. honest;
           now = λ _. ended_so (λ (s : MemoryState). AddsNone s.crash old.crash) r all old old new ended
               (λ one other same is. subst (λ (c : CrashState). AddsNone c old.crash) (sym same.crash) is) adds (adds_none old.crash) (adds_none old.crash);
+          silent = ended_moments (λ moment. moment.told ≡ old.told) r all old old new ended (silent_written old.folder crash old) (silent_none old);
           moments = λ _. ended_moments (λ moment. AddsNone moment.crash old.crash × (moment.told ≡ old.told)) r all old old new ended
               (steps_to (λ moment. AddsNone moment.crash old.crash × (moment.told ≡ old.told)) old.folder crash old (adds, refl))
-              (stays (λ moment. AddsNone moment.crash old.crash × (moment.told ≡ old.told)) (moments_of (seen old)));
+              (stays (λ moment. AddsNone moment.crash old.crash × (moment.told ≡ old.told)) (moments_of (seen false old)));
         };
       },
     )
 
-pub say_counts : (plan : Option FaultKind) (r : Result (Unit {0}) Failed) (piece : List ℕ) (old new : MemoryState) → old.say_faults ≤ 2 ^ 64 - 1
+say_counts : (plan : Option FaultKind) (r : Result (Unit {0}) Failed) (piece : List ℕ) (old new : MemoryState) → old.say_faults ≤ 2 ^ 64 - 1
     → DoesSayCall plan r piece old new → CountsFault (is_err r) old.say_faults new.say_faults
 say_counts None r piece old new fits h = either
     (λ h. no_fault r tt old.say_faults new.say_faults h.0 (ap (λ s. s.say_faults) h.1))
@@ -406,7 +385,7 @@ say_counts None r piece old new fits h = either
 say_counts (Some how) r piece old new fits h =
     fault r old.say_faults new.say_faults h.0 (either (λ e. ap (λ s. s.say_faults) e) (λ e. ap (λ s. s.say_faults) e) (has_room old (length piece)) h.1) fits
 
-pub say_leaves_disk : (plan : Option FaultKind) (r : Result (Unit {0}) Failed) (piece : List ℕ) (old new : MemoryState) → DoesSayCall plan r piece old new
+say_leaves_disk : (plan : Option FaultKind) (r : Result (Unit {0}) Failed) (piece : List ℕ) (old new : MemoryState) → DoesSayCall plan r piece old new
     → (new.folder ≡ old.folder) × (new.disk_faults ≡ old.disk_faults)
 say_leaves_disk None r piece old new h = either
     (λ h. (ap (λ s. s.folder) h.1, ap (λ s. s.disk_faults) h.1)) (λ h. (ap (λ s. s.folder) h.1, ap (λ s. s.disk_faults) h.1)) (has_room old (length piece)) h
@@ -439,24 +418,38 @@ say_says (Some how) r piece old new h =
     (λ e. said_front r _ piece old.told new.told 0 h.0 (nothing_more old.told piece new.told (ap (λ s. s.told) e))) (has_room old (length piece)) h.1
 
 -- what was said goes on
-said_on : (old new : MemoryState) (front : List ℕ) → new.crash ≡ old.crash → new.told ≡ old.told ++ front → new.past ≡ present old ∷ old.past → SaysOn (seen old) (seen new)
-said_on old new front crash told past = record {
-  telling = refl;
-  now = λ _. crash;
-  grows = λ _. (front, told);
-  moments = λ _. (
-    record { crash = new.crash; told = new.told } ∷ [],
-    ap (λ (moments : List Moment). record { crash = new.crash; told = new.told } ∷ moments) past,
-    All-cons (λ moment. (moment.crash ≡ old.crash) × Extends old.told moment.told × Extends moment.told new.told) (record { crash = new.crash; told = new.told }) []
-        (crash, (front, told), ([], sym (append-nil new.told))) (All-nil (λ moment. (moment.crash ≡ old.crash) × Extends old.told moment.told × Extends moment.told new.told)),
-  );
-}
+abbrev SaysOnTo : Bool → Bool → MemoryState → MemoryState → Type 0
+SaysOnTo was is old new = SaysOn (seen was old) (seen is new)
 
-said_nothing : (old new : MemoryState) → new.crash ≡ old.crash → new.told ≡ old.told → new.past ≡ old.past → SaysOn (seen old) (seen new)
-said_nothing old new crash told past = record {
-  telling = refl;
+said_on : (was is : Bool) (old new : MemoryState) (front : List ℕ) → new.crash ≡ old.crash → new.told ≡ old.told ++ front → new.past ≡ present old ∷ old.past → SaysOnTo was is old new
+said_on was is old new front crash told past =
+    let grown : Extends old.told new.told = (front, told) in
+    let whole : Extends new.told new.told = ([], sym (append-nil new.told)) in
+    let went = ap (λ (moments : List Moment). record { crash = new.crash; told = new.told } ∷ moments) past in
+    record {
+      telling = λ honest. honest;
+      now = λ _. crash;
+      grows = grown;
+      said = (
+        record { crash = new.crash; told = new.told } ∷ [],
+        went,
+        All-cons (λ moment. Extends old.told moment.told × Extends moment.told new.told) (record { crash = new.crash; told = new.told }) []
+            (grown, whole) (All-nil (λ moment. Extends old.told moment.told × Extends moment.told new.told)),
+      );
+      moments = λ _. (
+        record { crash = new.crash; told = new.told } ∷ [],
+        went,
+        All-cons (λ moment. (moment.crash ≡ old.crash) × Extends old.told moment.told × Extends moment.told new.told) (record { crash = new.crash; told = new.told }) []
+            (crash, grown, whole) (All-nil (λ moment. (moment.crash ≡ old.crash) × Extends old.told moment.told × Extends moment.told new.told)),
+      );
+    }
+
+said_nothing : (was is : Bool) (old new : MemoryState) → new.crash ≡ old.crash → new.told ≡ old.told → new.past ≡ old.past → SaysOnTo was is old new
+said_nothing was is old new crash told past = record {
+  telling = λ honest. honest;
   now = λ _. crash;
-  grows = λ _. ([], told ∙ sym (append-nil old.told));
+  grows = ([], told ∙ sym (append-nil old.told));
+  said = ([], (λ i. record { crash = crash i; told = told i } ∷ past i), All-nil (λ moment. Extends old.told moment.told × Extends moment.told new.told));
   moments = λ _. (
     [],
     (λ i. record { crash = crash i; told = told i } ∷ past i),
@@ -464,40 +457,55 @@ said_nothing old new crash told past = record {
   );
 }
 
-said_all : (piece : List ℕ) (bytes : ℕ) (old new : MemoryState) → new ≡ used bytes (said piece old) → SaysOn (seen old) (seen new)
-said_all piece bytes old new is = said_on old new piece (ap (λ s. s.crash) is) (ap (λ s. s.told) is) (ap (λ s. s.past) is)
+said_all : (was is : Bool) (piece : List ℕ) (bytes : ℕ) (old new : MemoryState) → new ≡ used bytes (said piece old) → SaysOnTo was is old new
+said_all was is piece bytes old new so = said_on was is old new piece (ap (λ s. s.crash) so) (ap (λ s. s.told) so) (ap (λ s. s.past) so)
 
-said_some : (piece : List ℕ) (bytes : ℕ) (old new : MemoryState) → new ≡ say_fault (used bytes (said piece old)) → SaysOn (seen old) (seen new)
-said_some piece bytes old new is = said_on old new piece (ap (λ s. s.crash) is) (ap (λ s. s.told) is) (ap (λ s. s.past) is)
+said_some : (was is : Bool) (piece : List ℕ) (bytes : ℕ) (old new : MemoryState) → new ≡ say_fault (used bytes (said piece old)) → SaysOnTo was is old new
+said_some was is piece bytes old new so = said_on was is old new piece (ap (λ s. s.crash) so) (ap (λ s. s.told) so) (ap (λ s. s.past) so)
 
-said_refused : (old new : MemoryState) → new ≡ say_fault (refused old) → SaysOn (seen old) (seen new)
-said_refused old new is = said_nothing old new (ap (λ s. s.crash) is) (ap (λ s. s.told) is) (ap (λ s. s.past) is)
+said_refused : (was is : Bool) (old new : MemoryState) → new ≡ say_fault (refused old) → SaysOnTo was is old new
+said_refused was is old new so = said_nothing was is old new (ap (λ s. s.crash) so) (ap (λ s. s.told) so) (ap (λ s. s.past) so)
 
-pub say_says_on : (plan : Option FaultKind) (r : Result (Unit {0}) Failed) (piece : List ℕ) (old new : MemoryState) → DoesSayCall plan r piece old new → SaysOn (seen old) (seen new)
-say_says_on None r piece old new h = either (λ h. said_all piece (length piece) old new h.1) (λ h. said_refused old new h.1) (has_room old (length piece)) h
-say_says_on (Some how) r piece old new h = either
-    (λ e. said_some (left_by how piece (first_half piece) []) (length piece) old new e) (λ e. said_refused old new e) (has_room old (length piece)) h.1
+say_says_on : (was is : Bool) (plan : Option FaultKind) (r : Result (Unit {0}) Failed) (piece : List ℕ) (old new : MemoryState) → DoesSayCall plan r piece old new → SaysOnTo was is old new
+say_says_on was is None r piece old new h = either (λ h. said_all was is piece (length piece) old new h.1) (λ h. said_refused was is old new h.1) (has_room old (length piece)) h
+say_says_on was is (Some how) r piece old new h = either
+    (λ e. said_some was is (left_by how piece (first_half piece) []) (length piece) old new e) (λ e. said_refused was is old new e) (has_room old (length piece)) h.1
+
+-- a call that says
+pub say_told : (was is : Bool) (plan : Option FaultKind) (r : Result (Unit {0}) Failed) (piece : List ℕ) (old new : MemoryState) → old.say_faults ≤ 2 ^ 64 - 1 → is ≡ is_err r
+    → DoesSayCall plan r piece old new → OnlySays (is_err r) (seen was old) (seen is new)
+say_told was is plan r piece old new fits last does =
+    let kept = say_leaves_disk plan r piece old new does in
+    record {
+      telling = λ honest. honest;
+      counts = say_counts plan r piece old new fits does;
+      last = flagged (is_err r) is last;
+      disk = record { same_folder = kept.0; same_faults = kept.1 };
+      images = say_says_on was is plan r piece old new does;
+    }
 
 -- a call that reads leaves all but a count
 reading_view : (plan : Option FaultKind) (old new : MemoryState) → new ≡ state_after_reading plan old → SameView old new
 reading_view None old new is = view_of old new is
 reading_view (Some how) old new is = after_fault old new is
 
-pub reading_told : (plan : Option FaultKind) (is_fault : Bool) (old new : MemoryState) → new ≡ state_after_reading plan old → CountsFault is_fault old.disk_faults new.disk_faults
-    → KeepsCrash (seen old) (seen new) × OnlyReads is_fault (seen old) (seen new)
-reading_told plan is_fault old new is counts =
-    let same = reading_view plan old new is in (
+pub reading_told : (was is : Bool) (plan : Option FaultKind) (is_fault : Bool) (old new : MemoryState) → new ≡ state_after_reading plan old → CountsFault is_fault old.disk_faults new.disk_faults → is ≡ is_fault
+    → KeepsCrash (seen was old) (seen is new) × OnlyReads is_fault (seen was old) (seen is new)
+reading_told was is plan is_fault old new so counts last =
+    let same = reading_view plan old new so in (
       λ _. same.crash,
       record {
-        telling = refl;
+        telling = λ honest. honest;
         folder = λ _. same.folder;
         counts = counts;
-        output = record { same_telling = refl; same_told = same.told; same_faults = same.say_faults };
+        last = flagged is_fault is last;
+        output = record { same_told = same.told; same_faults = same.say_faults };
         images = record {
-          telling = refl;
+          telling = λ honest. honest;
           now = λ _. adds_none_same old.crash new.crash same.crash;
-          moments = λ _. goes_to (λ moment. AddsNone moment.crash old.crash × (moment.told ≡ old.told)) (moments_of (seen old)) old new same
-              (stays (λ moment. AddsNone moment.crash old.crash × (moment.told ≡ old.told)) (moments_of (seen old)));
+          silent = goes_to (λ moment. moment.told ≡ old.told) (moments_of (seen false old)) old new same (silent_none old);
+          moments = λ _. goes_to (λ moment. AddsNone moment.crash old.crash × (moment.told ≡ old.told)) (moments_of (seen false old)) old new same
+              (stays (λ moment. AddsNone moment.crash old.crash × (moment.told ≡ old.told)) (moments_of (seen false old)));
         };
       },
     )

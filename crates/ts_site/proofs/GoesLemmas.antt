@@ -1,11 +1,12 @@
 -- One call after another: the moments that they pass, and what they leave of them.
 use Rattle.std.proofs.Common.{◌≡◌, Bool, false, ℕ, List, [], ◌++◌, IsTrue, refl, sym, ap, subst, ◌∙◌, append_assoc, append-nil}
+use Rattle.std.proofs.lemmas.Bool.{false≢true}
 use Rattle.std.proofs.lemmas.List.Elements.{All-append, All-nil, All-weaker}
 use Rattle.ts_site.specs.Crash.{AddsNone}
 use Rattle.ts_site.specs.Faults.{CountsFault}
 use Rattle.ts_site.specs.Folder.{Extends}
 use Rattle.ts_site.specs.Moments.{Moment, GoesOn}
-use Rattle.ts_site.specs.Outside.{Outside, IsHonest, moments_of, IsSameOutput, StaysSilent, AddsNoImage, SaysOn, KeepsCrash, OnlyDisk, OnlyReads, OnlySays}
+use Rattle.ts_site.specs.Outside.{Outside, Falls, moments_of, IsSameOutput, StaysSilent, AddsNoImage, SaysOn, KeepsCrash, OnlyDisk, OnlyReads, OnlySays}
 use Rattle.ts_site.proofs.CrashLemmas.{adds_none, adds_none_more}
 
 pub goes_weaker : (P Q : Moment → Type 0) (old new : List Moment) → ((moment : Moment) → P moment → Q moment) → GoesOn P old new → GoesOn Q old new
@@ -21,38 +22,46 @@ goes_more P first second third (one, is, all) (other, then, rest) = (
   All-append P other one rest all,
 )
 
-told_then : (before between : Bool) → between ≡ before → IsTrue before → IsTrue between
-told_then before between same told = subst (λ (b : Bool). IsTrue b) (sym same) told
+-- what is told after two calls was told before them
+pub falls_more : (old between new : Outside) → Falls old between → Falls between new → Falls old new
+falls_more old between new one other = λ honest. one (other honest)
+
+-- nothing is said, after nothing was
+silence_more : (old between new : Outside) → between.told ≡ old.told
+    → GoesOn (λ moment. moment.told ≡ old.told) (moments_of old) (moments_of between) → GoesOn (λ moment. moment.told ≡ between.told) (moments_of between) (moments_of new)
+    → GoesOn (λ moment. moment.told ≡ old.told) (moments_of old) (moments_of new)
+silence_more old between new same one other =
+    goes_more (λ moment. moment.told ≡ old.told) (moments_of old) (moments_of between) (moments_of new) one
+    (goes_weaker (λ moment. moment.told ≡ between.told) (λ moment. moment.told ≡ old.told) (moments_of between) (moments_of new) (λ moment is. is ∙ same) other)
 
 -- a call that says nothing, after one that did not
 pub silent_more : (old between new : Outside) → between.told ≡ old.told → StaysSilent old between → StaysSilent between new → StaysSilent old new
 silent_more old between new same one other = record {
-  telling = other.telling ∙ one.telling;
-  moments = λ told.
-      let then = told_then old.tells_images between.tells_images one.telling told in
-      goes_more (λ moment. moment.told ≡ old.told) (moments_of old) (moments_of between) (moments_of new) (one.moments told)
-      (goes_weaker (λ moment. moment.told ≡ between.told) (λ moment. moment.told ≡ old.told) (moments_of between) (moments_of new) (λ moment is. is ∙ same) (other.moments then));
+  telling = falls_more old between new one.telling other.telling;
+  moments = silence_more old between new same one.moments other.moments;
 }
 
 pub silent_none : (outside : Outside) → StaysSilent outside outside
-silent_none outside = record { telling = refl; moments = λ told. goes_none (λ moment. moment.told ≡ outside.told) (moments_of outside) }
+silent_none outside = record { telling = λ honest. honest; moments = goes_none (λ moment. moment.told ≡ outside.told) (moments_of outside) }
 
 -- a call that adds no image, after one that added none
 pub adds_more : (old between new : Outside) → between.told ≡ old.told → AddsNoImage old between → AddsNoImage between new → AddsNoImage old new
 adds_more old between new same one other = record {
-  telling = other.telling ∙ one.telling;
-  now = λ told. adds_none_more old.crash between.crash new.crash (one.now told) (other.now (told_then old.tells_images between.tells_images one.telling told));
+  telling = falls_more old between new one.telling other.telling;
+  now = λ told. adds_none_more old.crash between.crash new.crash (one.now (other.telling told)) (other.now told);
+  silent = silence_more old between new same one.silent other.silent;
   moments = λ told.
-      let then = told_then old.tells_images between.tells_images one.telling told in
-      goes_more (λ moment. AddsNone moment.crash old.crash × (moment.told ≡ old.told)) (moments_of old) (moments_of between) (moments_of new) (one.moments told)
+      let before = other.telling told in
+      goes_more (λ moment. AddsNone moment.crash old.crash × (moment.told ≡ old.told)) (moments_of old) (moments_of between) (moments_of new) (one.moments before)
       (goes_weaker (λ moment. AddsNone moment.crash between.crash × (moment.told ≡ between.told)) (λ moment. AddsNone moment.crash old.crash × (moment.told ≡ old.told)) (moments_of between) (moments_of new)
-      (λ moment is. (adds_none_more old.crash between.crash moment.crash (one.now told) is.0, is.1 ∙ same)) (other.moments then));
+      (λ moment is. (adds_none_more old.crash between.crash moment.crash (one.now before) is.0, is.1 ∙ same)) (other.moments told));
 }
 
 pub adds_nothing : (outside : Outside) → AddsNoImage outside outside
 adds_nothing outside = record {
-  telling = refl;
+  telling = λ honest. honest;
   now = λ told. adds_none outside.crash;
+  silent = goes_none (λ moment. moment.told ≡ outside.told) (moments_of outside);
   moments = λ told. goes_none (λ moment. AddsNone moment.crash outside.crash × (moment.told ≡ outside.told)) (moments_of outside);
 }
 
@@ -62,25 +71,34 @@ extends_more first second third (one, is) (other, then) = (one ++ other, then �
 
 pub says_on_more : (old between new : Outside) → SaysOn old between → SaysOn between new → SaysOn old new
 says_on_more old between new one other = record {
-  telling = other.telling ∙ one.telling;
-  now = λ told. other.now (told_then old.tells_images between.tells_images one.telling told) ∙ one.now told;
-  grows = λ told. extends_more old.told between.told new.told (one.grows told) (other.grows (told_then old.tells_images between.tells_images one.telling told));
+  telling = falls_more old between new one.telling other.telling;
+  now = λ told. other.now told ∙ one.now (other.telling told);
+  grows = extends_more old.told between.told new.told one.grows other.grows;
+  said =
+      goes_more (λ moment. Extends old.told moment.told × Extends moment.told new.told) (moments_of old) (moments_of between) (moments_of new)
+      (goes_weaker (λ moment. Extends old.told moment.told × Extends moment.told between.told)
+      (λ moment. Extends old.told moment.told × Extends moment.told new.told) (moments_of old) (moments_of between)
+      (λ moment is. (is.0, extends_more moment.told between.told new.told is.1 other.grows)) one.said)
+      (goes_weaker (λ moment. Extends between.told moment.told × Extends moment.told new.told)
+      (λ moment. Extends old.told moment.told × Extends moment.told new.told) (moments_of between) (moments_of new)
+      (λ moment is. (extends_more old.told between.told moment.told one.grows is.0, is.1)) other.said);
   moments = λ told.
-      let then = told_then old.tells_images between.tells_images one.telling told in
+      let before = other.telling told in
       goes_more (λ moment. (moment.crash ≡ old.crash) × Extends old.told moment.told × Extends moment.told new.told) (moments_of old) (moments_of between) (moments_of new)
       (goes_weaker (λ moment. (moment.crash ≡ old.crash) × Extends old.told moment.told × Extends moment.told between.told)
       (λ moment. (moment.crash ≡ old.crash) × Extends old.told moment.told × Extends moment.told new.told) (moments_of old) (moments_of between)
-      (λ moment is. (is.0, is.1, extends_more moment.told between.told new.told is.2 (other.grows then))) (one.moments told))
+      (λ moment is. (is.0, is.1, extends_more moment.told between.told new.told is.2 other.grows)) (one.moments before))
       (goes_weaker (λ moment. (moment.crash ≡ between.crash) × Extends between.told moment.told × Extends moment.told new.told)
       (λ moment. (moment.crash ≡ old.crash) × Extends old.told moment.told × Extends moment.told new.told) (moments_of between) (moments_of new)
-      (λ moment is. (is.0 ∙ one.now told, extends_more old.told between.told moment.told (one.grows told) is.1, is.2)) (other.moments then));
+      (λ moment is. (is.0 ∙ one.now before, extends_more old.told between.told moment.told one.grows is.1, is.2)) (other.moments told));
 }
 
 pub says_nothing : (outside : Outside) → SaysOn outside outside
 says_nothing outside = record {
-  telling = refl;
+  telling = λ honest. honest;
   now = λ told. refl;
-  grows = λ told. ([], sym (append-nil outside.told));
+  grows = ([], sym (append-nil outside.told));
+  said = goes_none (λ moment. Extends outside.told moment.told × Extends moment.told outside.told) (moments_of outside);
   moments = λ told. goes_none (λ moment. (moment.crash ≡ outside.crash) × Extends outside.told moment.told × Extends moment.told outside.told) (moments_of outside);
 }
 
@@ -90,87 +108,78 @@ counts_more fault old between new same counts = subst (λ n. CountsFault fault n
 
 output_more : (old between new : Outside) → IsSameOutput old between → IsSameOutput between new → IsSameOutput old new
 output_more old between new one other = record {
-  same_telling = other.same_telling ∙ one.same_telling;
   same_told = other.same_told ∙ one.same_told;
   same_faults = other.same_faults ∙ one.same_faults;
 }
 
 pub disk_more : (fault : Bool) (old between new : Outside) → OnlyDisk false old between → OnlyDisk fault between new → OnlyDisk fault old new
 disk_more fault old between new one other = record {
-  telling = other.telling ∙ one.telling;
+  telling = falls_more old between new one.telling other.telling;
   counts = counts_more fault old.disk_faults between.disk_faults new.disk_faults one.counts other.counts;
+  last = other.last;
   output = output_more old between new one.output other.output;
   images = silent_more old between new one.output.same_told one.images other.images;
 }
 
 -- a call that adds no image says nothing
 pub adds_silently : (old new : Outside) → AddsNoImage old new → StaysSilent old new
-adds_silently old new adds = record {
-  telling = adds.telling;
-  moments = λ told. goes_weaker (λ moment. AddsNone moment.crash old.crash × (moment.told ≡ old.told)) (λ moment. moment.told ≡ old.told) (moments_of old) (moments_of new) (λ moment is. is.1) (adds.moments told);
-}
+adds_silently old new adds = record { telling = adds.telling; moments = adds.silent }
 
 pub disk_reads : (fault : Bool) (old between new : Outside) → OnlyDisk false old between → OnlyReads fault between new → OnlyDisk fault old new
 disk_reads fault old between new one other = record {
-  telling = other.telling ∙ one.telling;
+  telling = falls_more old between new one.telling other.telling;
   counts = counts_more fault old.disk_faults between.disk_faults new.disk_faults one.counts other.counts;
+  last = other.last;
   output = output_more old between new one.output other.output;
   images = silent_more old between new one.output.same_told one.images (adds_silently between new other.images);
-}
-
--- an honest site stays honest
-pub honest_disk : (fault : Bool) (old new : Outside) → OnlyDisk fault old new → IsHonest old → IsHonest new
-honest_disk fault old new only honest = record {
-  folder = told_then old.tells_folder new.tells_folder only.telling honest.folder;
-  output = told_then old.tells_output new.tells_output only.output.same_telling honest.output;
-  images = told_then old.tells_images new.tells_images only.images.telling honest.images;
-}
-
-pub honest_reads : (fault : Bool) (old new : Outside) → OnlyReads fault old new → IsHonest old → IsHonest new
-honest_reads fault old new only honest = record {
-  folder = told_then old.tells_folder new.tells_folder only.telling honest.folder;
-  output = told_then old.tells_output new.tells_output only.output.same_telling honest.output;
-  images = told_then old.tells_images new.tells_images only.images.telling honest.images;
-}
-
-pub honest_says : (fault : Bool) (old new : Outside) → OnlySays fault old new → IsHonest old → IsHonest new
-honest_says fault old new only honest = record {
-  folder = told_then old.tells_folder new.tells_folder only.disk.same_telling honest.folder;
-  output = told_then old.tells_output new.tells_output only.telling honest.output;
-  images = told_then old.tells_images new.tells_images only.images.telling honest.images;
 }
 
 -- a call that only reads, after one that did; and one that only says
 pub reads_more : (fault : Bool) (old between new : Outside) → OnlyReads false old between → OnlyReads fault between new → OnlyReads fault old new
 reads_more fault old between new one other = record {
-  telling = other.telling ∙ one.telling;
-  folder = λ told. other.folder (told_then old.tells_folder between.tells_folder one.telling told) ∙ one.folder told;
+  telling = falls_more old between new one.telling other.telling;
+  folder = λ told. other.folder told ∙ one.folder (other.telling told);
   counts = counts_more fault old.disk_faults between.disk_faults new.disk_faults one.counts other.counts;
+  last = other.last;
   output = output_more old between new one.output other.output;
   images = adds_more old between new one.output.same_told one.images other.images;
 }
 
 pub says_more : (fault : Bool) (old between new : Outside) → OnlySays false old between → OnlySays fault between new → OnlySays fault old new
 says_more fault old between new one other = record {
-  telling = other.telling ∙ one.telling;
+  telling = falls_more old between new one.telling other.telling;
   counts = counts_more fault old.say_faults between.say_faults new.say_faults one.counts other.counts;
+  last = other.last;
   disk = record {
-    same_telling = other.disk.same_telling ∙ one.disk.same_telling;
     same_folder = other.disk.same_folder ∙ one.disk.same_folder;
     same_faults = other.disk.same_faults ∙ one.disk.same_faults;
   };
   images = says_on_more old between new one.images other.images;
 }
 
-pub keeps_more : (fault : Bool) (old between new : Outside) → OnlyReads fault old between → KeepsCrash old between → KeepsCrash between new → KeepsCrash old new
-keeps_more fault old between new reads one other = λ told. other (told_then old.tells_images between.tells_images reads.images.telling told) ∙ one told
+pub keeps_more : (old between new : Outside) → Falls between new → KeepsCrash old between → KeepsCrash between new → KeepsCrash old new
+keeps_more old between new falls one other = λ told. other told ∙ one (falls told)
+
+-- no fault was answered
+no_fault : (P : Type 0) → IsTrue false → P
+no_fault P is = absurd (false≢true is)
 
 -- no call yet
 pub reads_none : (outside : Outside) → OnlyReads false outside outside
 reads_none outside = record {
-  telling = refl;
+  telling = λ honest. honest;
   folder = λ told. refl;
   counts = refl;
-  output = record { same_telling = refl; same_told = refl; same_faults = refl };
+  last = no_fault (IsTrue outside.failed_last);
+  output = record { same_told = refl; same_faults = refl };
   images = adds_nothing outside;
+}
+
+pub says_none : (outside : Outside) → OnlySays false outside outside
+says_none outside = record {
+  telling = λ honest. honest;
+  counts = refl;
+  last = no_fault (IsTrue outside.failed_last);
+  disk = record { same_folder = refl; same_faults = refl };
+  images = says_nothing outside;
 }

@@ -1,5 +1,5 @@
 -- What a site in memory tells, and the faults that are planned for it.
-use Rattle.std.specs.Prelude.{◌≡◌, ℕ, ◌-◌, ◌==◌, ◌&&◌, Bool, true, false, List, [], length, reverse, find, Option, None, Some, is_none, Result, Err, MatchBool, if◌then◌else◌}
+use Rattle.std.specs.Prelude.{◌≡◌, ℕ, ◌-◌, ◌==◌, ◌&&◌, Bool, true, false, List, [], length, reverse, find, Option, None, Some, Result, Err, MatchBool, if◌then◌else◌}
 use Rattle.std.specs.FinMap.{insert, remove}
 use Rattle.std.specs.Option.{option_map}
 use Rattle.ts_site.specs.declared.disk.Failed.{Failed}
@@ -21,19 +21,26 @@ use Rattle.ts_site.specs.Room.{is_stopped}
 abbrev pub memory_state : MemorySite → MemoryState
 memory_state site = recorded site.recorder
 
+-- what a state in memory tells, once its last call failed or not
+abbrev pub seen : Bool → MemoryState → Outside
+seen failed state = record {
+  is_honest = true;
+  folder = state.folder;
+  disk_faults = state.disk_faults;
+  told = state.told;
+  say_faults = state.say_faults;
+  failed_last = failed;
+  crash = state.crash;
+  past = state.past;
+}
+
+-- whether its last call failed
+abbrev pub has_failed : MemorySite → Bool
+has_failed site = site.failed_last
+
 -- a site in memory tells all
 abbrev pub outside_of : MemorySite → Outside
-outside_of site = record {
-  tells_folder = true;
-  folder = (memory_state site).folder;
-  disk_faults = (memory_state site).disk_faults;
-  tells_output = true;
-  told = (memory_state site).told;
-  say_faults = (memory_state site).say_faults;
-  tells_images = true;
-  crash = (memory_state site).crash;
-  past = (memory_state site).past;
-}
+outside_of site = seen (has_failed site) (memory_state site)
 
 -- the calls that happened, the first of them first
 abbrev pub memory_calls : MemorySite → List Call
@@ -92,11 +99,6 @@ abbrev pub DoesDiskCall : Option FaultKind → Result (Unit {0}) Failed → ℕ 
 DoesDiskCall None result bytes all half old new = MakesDiskCall result bytes all old new
 DoesDiskCall (Some how) result bytes all half old new = FailsByPlan result bytes (left_by how all half old) old new
 
--- The same of a call that settles. Where a fault is planned for it, nothing is settled.
-abbrev pub DoesSettlingCall : Option FaultKind → Result (Unit {0}) Failed → MemoryState → MemoryState → MemoryState → Type 0
-DoesSettlingCall None result all old new = MakesDiskCall result 0 all old new
-DoesSettlingCall (Some how) result all old new = FailsByPlan result 0 old old new
-
 -- the same of a call that says a piece
 abbrev pub DoesSayCall : Option FaultKind → Result (Unit {0}) Failed → List ℕ → MemoryState → MemoryState → Type 0
 DoesSayCall None result piece old new = MakesSayCall result (length piece) piece old new
@@ -133,10 +135,6 @@ happens_whole (Some how) = left_by how true false false
 -- the calls after one that uses no bytes: that call is recorded where it happens
 abbrev pub calls_after : Option FaultKind → MemoryState → Call → List Call → List Call
 calls_after plan old call calls = calls_with (has_room old 0 && happens_whole plan) call calls
-
--- the same of a call that settles
-abbrev pub calls_after_settling : Option FaultKind → MemoryState → Call → List Call → List Call
-calls_after_settling plan old call calls = calls_with (has_room old 0 && is_none plan) call calls
 
 -- whether an append is recorded: where some of its bytes may be kept
 abbrev pub is_kept : Option FaultKind → Bool

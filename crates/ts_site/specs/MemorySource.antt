@@ -1,5 +1,5 @@
 -- What a source in memory tells.
-use Rattle.std.specs.Prelude.{◌≡◌, ℕ, ◌-◌, ◌==◌, min, List, drop, length, Result, Err, IsOkAnd, MatchBool}
+use Rattle.std.specs.Prelude.{◌≡◌, ℕ, ◌-◌, ◌==◌, min, Bool, true, List, drop, length, Result, Err, IsOkAnd, MatchBool}
 use Rattle.ts_site.specs.declared.disk.Failed.{Failed}
 use Rattle.ts_site.specs.declared.memory_source.MemorySource.{MemorySource}
 use Rattle.ts_site.specs.Recorder.{one_more}
@@ -20,6 +20,14 @@ source_state source = record {
   faults = source.faults;
   failing = source.failing;
 }
+
+-- a source in memory tells what is left
+abbrev pub tells_left : MemorySource → Bool
+tells_left source = true
+
+-- whether its last take failed
+abbrev pub has_failed : MemorySource → Bool
+has_failed source = source.failed_last
 
 -- a take that fails by plan: it takes nothing, the buffer stays as it was, and the plan is used up
 abbrev pub FailsByPlan : Result ℕ Failed → SourceState → SourceState → List ℕ → List ℕ → Type 0

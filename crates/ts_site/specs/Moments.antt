@@ -15,10 +15,6 @@ GoesOn P old new = (more : List Moment) × (new ≡ more ++ old) × All P more
 abbrev pub IsChangedOrNot : CrashState → CrashState → CrashState → Type 0
 IsChangedOrNot changed old new = (new ≡ changed) ⊎ (new ≡ old)
 
--- a call that changes files or names: at Ok the change came about, and after a failure it did or not
+-- a call that changes files or names, or settles: at Ok the change came about, and after a failure it did or not
 abbrev pub Changes : {E : Type 0} → Result (Unit {0}) E → CrashState → CrashState → CrashState → Type 0
 Changes result changed old new = MatchResult result (λ _. new ≡ changed) (λ _. IsChangedOrNot changed old new)
-
--- a call that settles: at Ok it did, and after a failure nothing is settled for certain
-abbrev pub Settles : {E : Type 0} → Result (Unit {0}) E → CrashState → CrashState → CrashState → Type 0
-Settles result settled old new = MatchResult result (λ _. new ≡ settled) (λ _. new ≡ old)

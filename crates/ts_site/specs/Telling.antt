@@ -1,6 +1,6 @@
 -- Meanings that an implementation may tell or not.
-use Rattle.std.specs.Prelude.{◌≡◌, Bool, IsTrue}
+use Rattle.std.specs.Prelude.{Bool, IsTrue}
 
--- whether a meaning is told stays; where it is told, the fact holds
+-- what is told after a call was told before it; where it is told after the call, the fact holds
 abbrev pub Tells : Bool → Bool → Type 0 → Type 0
-Tells before after fact = (after ≡ before) × (IsTrue before → fact)
+Tells before after fact = (IsTrue after → IsTrue before) × (IsTrue after → fact)

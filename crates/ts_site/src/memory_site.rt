@@ -1,10 +1,11 @@
 // A site in memory.
-ghost use Rattle.std.specs.Prelude.{◌≡◌, ◌+◌, ◌/◌, ◌≤◌, ◌++◌, ◌∷◌, ◌&&◌, [], ℕ, true, false, Some, Ok, Err, IsTrue, IfOk, IsOkAnd, OnOk, OnErr, IfErr, MatchOption, option_copied, option_map, length, map, take};
+ghost use Rattle.std.specs.Prelude.{◌≡◌, ◌+◌, ◌/◌, ◌≤◌, ◌++◌, ◌∷◌, ◌&&◌, [], ℕ, true, false, Some, Ok, Err, is_err, IsTrue, IfOk, IsOkAnd, OnOk, OnErr, IfErr, MatchOption, option_copied, option_map, length, map, take};
 ghost use Rattle.std.specs.FinMap.{get, contains_key};
 ghost use Rattle.ts_site.specs.Folder.{no_files, length_at, Reads, ReadsFile, AppendsNames, Extends};
 ghost use Rattle.ts_site.specs.Call.{call_lies_in, is_silent};
 ghost use Rattle.ts_site.specs.Crash.{IsImage};
-ghost use Rattle.ts_site.specs.MemorySite.{left_by};
+ghost use Rattle.ts_site.specs.Faults.{is_err_and, is_list_fault};
+ghost use Rattle.ts_site.specs.MemorySite.{left_by, has_failed};
 
 use crate::call::Call;
 use crate::plan::{Plan, count_call};
@@ -17,12 +18,13 @@ use std::alloc::{AllocError, Global};
 pub struct MemorySite {
     recorder: Recorder,
     plans: Vec<Plan>,
+    failed_last: bool,
 }
 
 impl MemorySite {
     ghost use Rattle.ts_site.specs.declared.call.Call.TheVariants as call;
     ghost use Rattle.ts_site.specs.Left.{first_half, AreLeft};
-    ghost use Rattle.ts_site.specs.MemorySite.{memory_state, memory_calls, plans_of, planned, due, nearer, state_after_reading, calls_after, calls_after_settling, is_kept, DoesDiskCall, DoesSettlingCall, DoesSayCall, FailsByPlan};
+    ghost use Rattle.ts_site.specs.MemorySite.{memory_state, memory_calls, plans_of, planned, due, nearer, state_after_reading, calls_after, is_kept, DoesDiskCall, DoesSayCall, FailsByPlan};
     ghost use Rattle.ts_site.specs.Recorder.{after_append, after_call, calls_with, fresh, has_room, with_settled, RecordsAppend};
 
     /// An empty folder without faults to come, with room for this many calls that change the folder, settle it or
@@ -36,6 +38,7 @@ impl MemorySite {
         Ok(MemorySite {
             recorder: Recorder::new(alloc, calls, bytes)?,
             plans: Vec::new(alloc),
+            failed_last: false,
         })
     }
 
@@ -106,6 +109,7 @@ impl MemorySite {
         Ok(MemorySite {
             recorder: self.recorder.crashed(alloc, choice)?,
             plans: Vec::new(alloc),
+            failed_last: false,
         })
     }
 
@@ -115,9 +119,24 @@ impl MemorySite {
         ensures plans { plans_of self.new ≡ map (nearer kind) (plans_of self.old) }
         ensures state { memory_state self.new ≡ state_after_reading (due kind (plans_of self.old) (memory_state self.old).until_stop) (memory_state self.old) }
         ensures calls { memory_calls self.new ≡ memory_calls self.old }
+        ensures last { has_failed self.new ≡ result }
     {
         let planned = count_call(&mut self.plans, kind);
-        self.recorder.fails_to_read(planned.is_some())
+        let fails = self.recorder.fails_to_read(planned.is_some());
+        self.failed_last = fails;
+        fails
+    }
+
+    /// Keeps whether a call failed, and gives its answer.
+    fn answer(&mut self, made: Result<(), Failed>) -> Result<(), Failed>
+        ensures answer { result ≡ made }
+        ensures last { has_failed self.new ≡ is_err result }
+        ensures plans { plans_of self.new ≡ plans_of self.old }
+        ensures state { memory_state self.new ≡ memory_state self.old }
+        ensures calls { memory_calls self.new ≡ memory_calls self.old }
+    {
+        self.failed_last = made.is_err();
+        made
     }
 
     /// Makes a call that uses no bytes, or fails by plan.
@@ -136,24 +155,6 @@ impl MemorySite {
                 self.recorder.spoil(made)
             }
             Some(FaultKind::Nothing | FaultKind::Half) => {
-                let made = self.recorder.pass(0);
-                self.recorder.spoil(made)
-            }
-        }
-    }
-
-    /// Makes a call that settles, or fails by plan, and then settles nothing.
-    fn settle(&mut self, kind: CallKind, call: Call) -> Result<(), Failed>
-        requires lies { (size : ℕ) → IsTrue (call_lies_in size call) }
-        requires silent { is_silent call ≡ true }
-        ensures plans { plans_of self.new ≡ map (nearer kind) (plans_of self.old) }
-        ensures made { DoesSettlingCall (planned kind (plans_of self.old)) result
-            (after_call self.old.recorder.store.items call (memory_state self.old)) (memory_state self.old) (memory_state self.new) }
-        ensures calls { memory_calls self.new ≡ calls_after_settling (planned kind (plans_of self.old)) (memory_state self.old) call (memory_calls self.old) }
-    {
-        match count_call(&mut self.plans, kind) {
-            None => self.recorder.make(call),
-            Some(_) => {
                 let made = self.recorder.pass(0);
                 self.recorder.spoil(made)
             }
@@ -227,7 +228,7 @@ impl Disk for MemorySite {
     ghost use Rattle.ts_site.specs.Crash.{synced, names_settled, settled};
     ghost use Rattle.ts_site.specs.Left.{first_half};
     ghost use Rattle.ts_site.specs.Newest.{memory_reads};
-    ghost use Rattle.ts_site.specs.MemorySite.{memory_state, memory_calls, outside_of, plans_of, planned, due, nearer, after_create, after_rename, after_remove, after_settling, calls_after, calls_after_settling, is_kept, DoesDiskCall, DoesSettlingCall, state_after_reading};
+    ghost use Rattle.ts_site.specs.MemorySite.{memory_state, memory_calls, outside_of, plans_of, planned, due, nearer, after_create, after_rename, after_remove, after_settling, calls_after, is_kept, DoesDiskCall, state_after_reading};
     ghost use Rattle.ts_site.specs.Recorder.{after_append, has_room, RecordsAppend};
     ghost use Rattle.ts_site.specs.declared.disk.ListFail.TheVariants as list_fail;
 
@@ -240,6 +241,7 @@ impl Disk for MemorySite {
         ensures names { OnOk result (AppendsNames (memory_state self.old).folder into.old.items into.new.items) }
         ensures fails { MatchOption (due CallKind.List (plans_of self.old) (memory_state self.old).until_stop) (IfErr result (λ e. e ≡ list_fail.Memory))
             (λ _. (result ≡ Err list_fail.Failed) × (into.new.items ≡ into.old.items)) }
+        ensures last { has_failed self.new ≡ is_err_and is_list_fault result }
         ensures plans { plans_of self.new ≡ map (nearer CallKind.List) (plans_of self.old) }
         ensures state { memory_state self.new ≡ state_after_reading (due CallKind.List (plans_of self.old) (memory_state self.old).until_stop) (memory_state self.old) }
         ensures calls { memory_calls self.new ≡ memory_calls self.old }
@@ -258,6 +260,7 @@ impl Disk for MemorySite {
 
     fn size(&mut self, name: &FileName) -> Result<Option<u64>, Failed>
         ensures size { MatchOption (due CallKind.Size (plans_of self.old) (memory_state self.old).until_stop) (result ≡ Ok (option_map length (get (memory_state self.old).folder name.now))) (λ _. result ≡ Err (record {})) }
+        ensures last { has_failed self.new ≡ is_err result }
         ensures plans { plans_of self.new ≡ map (nearer CallKind.Size) (plans_of self.old) }
         ensures state { memory_state self.new ≡ state_after_reading (due CallKind.Size (plans_of self.old) (memory_state self.old).until_stop) (memory_state self.old) }
         ensures calls { memory_calls self.new ≡ memory_calls self.old }
@@ -273,6 +276,7 @@ impl Disk for MemorySite {
         ensures within { IfOk result (λ count. count ≤ length into.old) }
         ensures read { MatchOption (due CallKind.ReadAt (plans_of self.old) (memory_state self.old).until_stop) (IsOkAnd result (λ count. ReadsFile (get (memory_state self.old).folder name.now) place count into.old into.new))
             (λ _. (result ≡ Err (record {})) × (into.new ≡ into.old)) }
+        ensures last { has_failed self.new ≡ is_err result }
         ensures plans { plans_of self.new ≡ map (nearer CallKind.ReadAt) (plans_of self.old) }
         ensures state { memory_state self.new ≡ state_after_reading (due CallKind.ReadAt (plans_of self.old) (memory_state self.old).until_stop) (memory_state self.old) }
         ensures calls { memory_calls self.new ≡ memory_calls self.old }
@@ -284,16 +288,19 @@ impl Disk for MemorySite {
     }
 
     fn create(&mut self, name: &FileName) -> Result<(), Failed>
+        ensures last { has_failed self.new ≡ is_err result }
         ensures plans { plans_of self.new ≡ map (nearer CallKind.Create) (plans_of self.old) }
         ensures made { DoesDiskCall (planned CallKind.Create (plans_of self.old)) result 0 (after_create name.now (memory_state self.old)) (memory_state self.old)
             (memory_state self.old) (memory_state self.new) }
         ensures calls { memory_calls self.new ≡ calls_after (planned CallKind.Create (plans_of self.old)) (memory_state self.old) (call.Create name.now) (memory_calls self.old) }
     {
-        self.make(CallKind::Create, Call::Create(name.copy()))
+        let made = self.make(CallKind::Create, Call::Create(name.copy()));
+        self.answer(made)
     }
 
     fn append(&mut self, name: &FileName, bytes: &[u8]) -> Result<(), Failed>
         requires { IsTrue (contains_key (memory_state self.old).folder name.now) }
+        ensures last { has_failed self.new ≡ is_err result }
         ensures plans { plans_of self.new ≡ map (nearer CallKind.Append) (plans_of self.old) }
         ensures made { DoesDiskCall (planned CallKind.Append (plans_of self.old)) result (length_at (memory_state self.old).folder name.now + length bytes.now)
             (after_append name.now bytes.now (memory_state self.old)) (after_append name.now (first_half bytes.now) (memory_state self.old))
@@ -301,58 +308,69 @@ impl Disk for MemorySite {
         ensures calls { RecordsAppend (has_room (memory_state self.old) (length_at (memory_state self.old).folder name.now + length bytes.now)
             && is_kept (planned CallKind.Append (plans_of self.old))) name.now (memory_calls self.old) (memory_calls self.new) }
     {
-        self.append_bytes(name, bytes)
+        let made = self.append_bytes(name, bytes);
+        self.answer(made)
     }
 
     fn sync(&mut self, name: &FileName) -> Result<(), Failed>
+        ensures last { has_failed self.new ≡ is_err result }
         ensures plans { plans_of self.new ≡ map (nearer CallKind.Sync) (plans_of self.old) }
-        ensures made { DoesSettlingCall (planned CallKind.Sync (plans_of self.old)) result (after_settling (synced name.now (memory_state self.old).crash) (memory_state self.old))
-            (memory_state self.old) (memory_state self.new) }
-        ensures calls { memory_calls self.new ≡ calls_after_settling (planned CallKind.Sync (plans_of self.old)) (memory_state self.old) (call.Sync name.now) (memory_calls self.old) }
+        ensures made { DoesDiskCall (planned CallKind.Sync (plans_of self.old)) result 0 (after_settling (synced name.now (memory_state self.old).crash) (memory_state self.old))
+            (memory_state self.old) (memory_state self.old) (memory_state self.new) }
+        ensures calls { memory_calls self.new ≡ calls_after (planned CallKind.Sync (plans_of self.old)) (memory_state self.old) (call.Sync name.now) (memory_calls self.old) }
     {
-        self.settle(CallKind::Sync, Call::Sync(name.copy()))
+        let made = self.make(CallKind::Sync, Call::Sync(name.copy()));
+        self.answer(made)
     }
 
     fn rename(&mut self, from: &FileName, to: &FileName) -> Result<(), Failed>
+        ensures last { has_failed self.new ≡ is_err result }
         ensures plans { plans_of self.new ≡ map (nearer CallKind.Rename) (plans_of self.old) }
         ensures made { DoesDiskCall (planned CallKind.Rename (plans_of self.old)) result 0 (after_rename from.now to.now (memory_state self.old)) (memory_state self.old)
             (memory_state self.old) (memory_state self.new) }
         ensures calls { memory_calls self.new ≡ calls_after (planned CallKind.Rename (plans_of self.old)) (memory_state self.old) (call.Rename from.now to.now) (memory_calls self.old) }
     {
-        self.make(
+        let made = self.make(
             CallKind::Rename,
             Call::Rename {
                 from: from.copy(),
                 to: to.copy(),
             },
-        )
+        );
+        self.answer(made)
     }
 
     fn remove(&mut self, name: &FileName) -> Result<(), Failed>
+        ensures last { has_failed self.new ≡ is_err result }
         ensures plans { plans_of self.new ≡ map (nearer CallKind.Remove) (plans_of self.old) }
         ensures made { DoesDiskCall (planned CallKind.Remove (plans_of self.old)) result 0 (after_remove name.now (memory_state self.old)) (memory_state self.old)
             (memory_state self.old) (memory_state self.new) }
         ensures calls { memory_calls self.new ≡ calls_after (planned CallKind.Remove (plans_of self.old)) (memory_state self.old) (call.Remove name.now) (memory_calls self.old) }
     {
-        self.make(CallKind::Remove, Call::Remove(name.copy()))
+        let made = self.make(CallKind::Remove, Call::Remove(name.copy()));
+        self.answer(made)
     }
 
     fn sync_names(&mut self) -> Result<(), Failed>
+        ensures last { has_failed self.new ≡ is_err result }
         ensures plans { plans_of self.new ≡ map (nearer CallKind.SyncNames) (plans_of self.old) }
-        ensures made { DoesSettlingCall (planned CallKind.SyncNames (plans_of self.old)) result (after_settling (names_settled (memory_state self.old).crash) (memory_state self.old))
-            (memory_state self.old) (memory_state self.new) }
-        ensures calls { memory_calls self.new ≡ calls_after_settling (planned CallKind.SyncNames (plans_of self.old)) (memory_state self.old) call.SyncNames (memory_calls self.old) }
+        ensures made { DoesDiskCall (planned CallKind.SyncNames (plans_of self.old)) result 0 (after_settling (names_settled (memory_state self.old).crash) (memory_state self.old))
+            (memory_state self.old) (memory_state self.old) (memory_state self.new) }
+        ensures calls { memory_calls self.new ≡ calls_after (planned CallKind.SyncNames (plans_of self.old)) (memory_state self.old) call.SyncNames (memory_calls self.old) }
     {
-        self.settle(CallKind::SyncNames, Call::SyncNames)
+        let made = self.make(CallKind::SyncNames, Call::SyncNames);
+        self.answer(made)
     }
 
     fn barrier(&mut self) -> Result<(), Failed>
+        ensures last { has_failed self.new ≡ is_err result }
         ensures plans { plans_of self.new ≡ map (nearer CallKind.Barrier) (plans_of self.old) }
-        ensures made { DoesSettlingCall (planned CallKind.Barrier (plans_of self.old)) result (after_settling (settled (memory_state self.old).folder) (memory_state self.old))
-            (memory_state self.old) (memory_state self.new) }
-        ensures calls { memory_calls self.new ≡ calls_after_settling (planned CallKind.Barrier (plans_of self.old)) (memory_state self.old) call.Barrier (memory_calls self.old) }
+        ensures made { DoesDiskCall (planned CallKind.Barrier (plans_of self.old)) result 0 (after_settling (settled (memory_state self.old).folder) (memory_state self.old))
+            (memory_state self.old) (memory_state self.old) (memory_state self.new) }
+        ensures calls { memory_calls self.new ≡ calls_after (planned CallKind.Barrier (plans_of self.old)) (memory_state self.old) call.Barrier (memory_calls self.old) }
     {
-        self.settle(CallKind::Barrier, Call::Barrier)
+        let made = self.make(CallKind::Barrier, Call::Barrier);
+        self.answer(made)
     }
 }
 
@@ -362,11 +380,13 @@ impl Site for MemorySite {
     ghost use Rattle.ts_site.specs.Recorder.{calls_with, has_room};
 
     fn say(&mut self, piece: &[u8]) -> Result<(), Failed>
+        ensures last { has_failed self.new ≡ is_err result }
         ensures plans { plans_of self.new ≡ map (nearer CallKind.Say) (plans_of self.old) }
         ensures made { DoesSayCall (planned CallKind.Say (plans_of self.old)) result piece.now (memory_state self.old) (memory_state self.new) }
         ensures calls { memory_calls self.new ≡ calls_with (has_room (memory_state self.old) (length piece.now)) (call.Say (length (memory_state self.new).told)) (memory_calls self.old) }
     {
-        self.say_piece(piece)
+        let made = self.say_piece(piece);
+        self.answer(made)
     }
 }
 

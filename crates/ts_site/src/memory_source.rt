@@ -12,6 +12,7 @@ pub struct MemorySource {
     most: usize,
     faults: u64,
     failing: u64,
+    failed_last: bool,
     ghost within: { place ≤ vec_len bytes },
     ghost some: { 1 ≤ most },
     ghost count: { faults ≤ 2 ^ 64 - 1 },
@@ -30,6 +31,7 @@ impl MemorySource {
             most: usize::MAX,
             faults: 0,
             failing: 0,
+            failed_last: false,
         })
     }
 
@@ -50,22 +52,26 @@ impl MemorySource {
 }
 
 impl Source for MemorySource {
-    ghost use Rattle.std.specs.Prelude.{true};
-    ghost use Rattle.ts_site.specs.MemorySource.{source_state, TakesByPlan};
+    ghost use Rattle.std.specs.Prelude.{is_err};
+    ghost use Rattle.ts_site.specs.MemorySource.{source_state, tells_left, has_failed, TakesByPlan};
 
-    ghost tells = { λ source. true };
+    ghost tells = { tells_left };
 
     ghost left = { λ source. (source_state source).left };
 
     ghost faults = { λ source. (source_state source).faults };
 
+    ghost failed_last = { has_failed };
+
     fn take(&mut self, into: &mut [u8]) -> Result<usize, Failed>
         requires { 0 < length into.old }
         ensures within { IfOk result (λ count. count ≤ length into.old) }
+        ensures last { has_failed self.new ≡ is_err result }
         ensures taken { TakesByPlan result (source_state self.old) (source_state self.new) into.old into.new }
     {
         let fails = self.failing == 1;
         self.failing = self.failing.saturating_sub(1);
+        self.failed_last = fails;
         if fails {
             self.faults = self.faults.saturating_add(1);
             return Err(Failed);

@@ -1,5 +1,5 @@
 // A disk with an output.
-ghost use Rattle.std.specs.Prelude.{IsTrue, is_err};
+ghost use Rattle.std.specs.Prelude.{◌≡◌, is_err};
 ghost use Rattle.ts_site.specs.Output.{Says};
 ghost use Rattle.ts_site.specs.Outside.{OnlySays};
 
@@ -9,6 +9,7 @@ use crate::{Disk, Failed};
 pub trait Site: Disk {
     /// Says a piece. After a failure a front of it was said, and at each moment of the call.
     fn say(&mut self, piece: &[u8]) -> Result<(), Failed>
-        ensures told { IsTrue (Self.outside self.old).tells_output → Says result piece.now (Self.outside self.old).told (Self.outside self.new).told }
+        ensures told { Says result piece.now (Self.outside self.old).told (Self.outside self.new).told }
+        ensures last { (Self.outside self.new).failed_last ≡ is_err result }
         ensures says { OnlySays (is_err result) (Self.outside self.old) (Self.outside self.new) };
 }

@@ -225,6 +225,22 @@ fn after_a_barrier_all_is_left(rt: HostRuntime) -> Result<(), Fail> {
 }
 
 #[test]
+fn a_barrier_that_fails_settles_where_it_happened(rt: HostRuntime) -> Result<(), Fail> {
+    let alloc = rt.alloc();
+    for (how, from) in [
+        (FaultKind::Nothing, Some(b"moved".as_slice())),
+        (FaultKind::Happened, None),
+        (FaultKind::Half, Some(b"moved".as_slice())),
+    ] {
+        let mut site = unsettled(alloc)?;
+        site.fail(CallKind::Barrier, 1, how)?;
+        assert!(rt; site.barrier().is_err());
+        assert!(rt; holds(&site.crashed(alloc, CrashChoice::Oldest)?, b"from", from)?);
+    }
+    Ok(())
+}
+
+#[test]
 fn after_the_stop_every_call_fails(rt: HostRuntime) -> Result<(), Fail> {
     let alloc = rt.alloc();
     let mut site = MemorySite::new(alloc, 20, 100)?;
