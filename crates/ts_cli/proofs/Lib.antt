@@ -3,7 +3,6 @@ mod CommandsLemmas
 mod CrashLaws
 mod HeadlineLaws
 mod InputLemmas
-mod SafeLaws
 mod ScriptLaws
 mod SingleLaws
 mod SquashRows

@@ -3,7 +3,7 @@ use Rattle.std.proofs.Common.{◌≡◌, ℕ, ◌+◌, ◌^◌, ◌<◌, ◌≤�
 use Rattle.std.specs.Prelude.{All}
 use Rattle.std.proofs.lemmas.List.Elements.{All-append, All-nil}
 use Rattle.ts_site.specs.Faults.{CountsFault}
-use Rattle.ts_site.specs.Outside.{Outside, OnlyReads}
+use Rattle.ts_site.specs.Outside.{IsHonest, Outside, OnlyReads}
 use Rattle.ts_script.specs.Cutting.{IsFresh, Took, buffered, lines_to_come, next_offset, progress}
 use Rattle.ts_script.specs.Lines.{feed_of, line_view, lines_of, whole_lines}
 use Rattle.ts_script.specs.Next.{GivesCommand, NextCommandIs, WaitsForMore}
@@ -67,6 +67,12 @@ so_far_none tells left before state session cutter most keeps fresh lines = reco
   each = All-nil IsOfScript;
   read = λ told. record { rest = lines_of left; first = (fresh.number, refl); to_come = lines; whole = λ unended. (fresh.number, refl) };
 }
+
+-- the same of an input that may have ceased to tell
+pub so_far_fallen : (tells tells_then : Bool) (left : List ℕ) (before now : Outside) (state : State) (session : Session) (tally : Tally) (cutter : LineCutter) (left_now : List ℕ) → (IsTrue tells_then → IsTrue tells)
+    → SoFar tells left before now state session tally cutter left_now → SoFar tells_then left before now state session tally cutter left_now
+so_far_fallen tells tells_then left before now state session tally cutter left_now falls was =
+    record { done = was.done; steps = was.steps; keeps = was.keeps; count = was.count; refused = was.refused; each = was.each; read = λ told. was.read (falls told) }
 
 one_of : (asked : Command) → IsOfScript asked → All IsOfScript (asked ∷ [])
 one_of asked is k d below =
@@ -200,12 +206,12 @@ module _ (tells : Bool) (left : List ℕ) (before now : Outside) (state : State)
 
 -- ---- with the opening before it
 
-pub ends_opened : (before opened now : Outside) (a : Asking) (left_after : List ℕ) (outcome : Outcome) (state : State) (done : List Command) → IsTrue before.tells_folder → Opens before opened
+pub ends_opened : (before opened now : Outside) (a : Asking) (left_after : List ℕ) (outcome : Outcome) (state : State) (done : List Command) → Opens before opened
     → ComesTo (change_of opened now) a left_after outcome state done → Ends (change_of before now) a left_after outcome
-ends_opened before opened now a left_after outcome state done told opens comes = inr (
+ends_opened before opened now a left_after outcome state done opens comes = inr (
   state,
   done,
-  record { says = subst (λ f. FolderSays f state) (opens.all.folder told) comes.says; opened = opened; opens = opens; comes = comes },
+  record { says = subst (λ f. FolderSays f state) opens.all.folder comes.says; opened = opened; opens = opens; comes = comes },
 )
 
 -- ---- the input
@@ -307,17 +313,17 @@ module _ (before after : Outside) (tells : Bool) (left : List ℕ) (faults : ℕ
   opening_after OutputFault why after = why
 
   pub cause_opening : (outcome : Outcome) (stop : Stop) → outcome ≡ stopped_outcome 0 stop → IsOpeningStop stop → OnlyReads (is_disk_fault stop) before after → StopsSettled stop before after
-      → (IsTrue before.tells_folder → (name : List ℕ) → stop ≡ Damaged name → IsFirstDamaged before.folder name)
+      → (IsHonest after → (name : List ℕ) → stop ≡ Damaged name → IsFirstDamaged before.folder name)
       → HasCause (change_of before after) (asking run_words tells left) left faults faults outcome.stop
   cause_opening outcome stop is why reads settles named =
-      let ends : Ends (change_of before after) (asking run_words tells left) left (stopped_outcome 0 stop) =
-      ends_opening (change_of before after) (asking run_words tells left) left (stopped_outcome 0 stop) stop refl (why, reads_all (is_disk_fault stop) before after reads, settles) in
+      let ends : IsHonest after → Ends (change_of before after) (asking run_words tells left) left (stopped_outcome 0 stop) = λ honest.
+      ends_opening (change_of before after) (asking run_words tells left) left (stopped_outcome 0 stop) stop refl honest (why, reads_all (is_disk_fault stop) before after reads honest, settles) in
       let cause : HasCause (change_of before after) (asking run_words tells left) left faults faults (Some stop) = record {
         usage = (λ e. absurd (opening_usage stop why e), λ none. absurd (is_run none));
         disk = reads.counts;
         output = opening_output stop why reads.output.same_faults;
         input = opening_input stop why;
-        damaged = λ told. damaged_cause (change_of before after) (asking run_words tells left) left (stopped_outcome 0 stop) ends (λ name e. named told name cc);
+        damaged = λ told. damaged_cause (change_of before after) (asking run_words tells left) left (stopped_outcome 0 stop) (ends told) (λ name e. named told name cc);
         limit = (λ e. absurd (opening_limit stop why e), λ reading told long after. opening_after stop why after);
       } in
       subst (λ (o : Outcome). HasCause (change_of before after) (asking run_words tells left) left faults faults o.stop) (sym is) cause
@@ -339,7 +345,7 @@ module _ (before after : Outside) (tells : Bool) (left left_after : List ℕ) (f
       → CountsFault (is_stop_and is_disk_fault outcome.stop) before.disk_faults after.disk_faults → CountsFault (is_stop_and is_output_fault outcome.stop) before.say_faults after.say_faults
       → CountsFault (is_stop_and is_input_fault outcome.stop) faults faults_after
       → (IsTrue tells → IfSome outcome.stop (λ given. given ≡ InputLimit → IsOverLimit left left_after)) → (IsTrue tells → IfNone outcome.stop (length left < 2 ^ 40))
-      → (IsTrue before.tells_folder → Ends (change_of before after) (asking run_words tells left) left_after outcome)
+      → (IsHonest after → Ends (change_of before after) (asking run_words tells left) left_after outcome)
       → HasCause (change_of before after) (asking run_words tells left) left_after faults faults_after outcome.stop
   cause_script outcome why disk output input over short ends = record {
     usage = (λ e. absurd (not_usage outcome.stop why e), λ none. absurd (is_run none));

@@ -2,7 +2,7 @@
 use Rattle.std.proofs.Common.{◌≡◌, ◌⊎◌, ℕ, ◌^◌, ◌<◌, Bool, true, false, cond, IsTrue, List, [], ◌∷◌, length, Option, None, Some, Result, Ok, Err, IfErr, inl, inr, refl, sym, ap, ◌∙◌, subst, arith}
 use Rattle.std.proofs.Math.Bool.{or-false}
 use Rattle.ts_site.specs.Faults.{CountsFault}
-use Rattle.ts_site.specs.Outside.{Outside}
+use Rattle.ts_site.specs.Outside.{IsHonest, Outside}
 use Rattle.ts_script.specs.Commands.{AwaitBody, IsCommand, IsNoCommand}
 use Rattle.ts_script.specs.declared.command.Command.{Command}
 use Rattle.ts_store.specs.declared.stop.Kind.{Kind}
@@ -88,7 +88,7 @@ unsettled_first words single OutputFault (inr is) = absurd is
 
 -- at a stop of the opening the folder was settled, or nothing where the disk failed
 settled_or : (words : List (List ℕ)) (before after : Outside) (stop : Stop) → IsOpeningStop stop → StopsSettled stop before after
-    → IsTrue before.tells_images → (IsUnsettled words stop × (after.crash ≡ before.crash)) ⊎ SettlesAll before after
+    → IsHonest after → (IsUnsettled words stop × (after.crash ≡ before.crash)) ⊎ SettlesAll before after
 settled_or words before after DiskFault why settles told = by_side (settles told)
   where
     by_side : (after.crash ≡ before.crash) ⊎ SettlesAll before after → (IsUnsettled words DiskFault × (after.crash ≡ before.crash)) ⊎ SettlesAll before after
@@ -117,23 +117,23 @@ module _ (s : Change) (a : Asking) (left_after : List ℕ) where
     outcome_is = is;
     early = early_first a.words single stop why;
     all = all;
-    settles = λ told. inl (unsettled_first a.words single stop why, same);
+    settles = inl (unsettled_first a.words single stop why, same);
   })
 
   -- a stop of the opening
-  pub ends_opening : (outcome : Outcome) (stop : Stop) → outcome ≡ stopped_outcome 0 stop → IsNotOpened s stop → Ends s a left_after outcome
-  ends_opening outcome stop is (why, all, settles) = inl (record {
+  pub ends_opening : (outcome : Outcome) (stop : Stop) → outcome ≡ stopped_outcome 0 stop → IsHonest s.after → IsNotOpened s stop → Ends s a left_after outcome
+  ends_opening outcome stop is honest (why, all, settles) = inl (record {
     stop = stop;
     outcome_is = is;
     early = early_opening a.words stop why;
     all = all;
-    settles = settled_or a.words s.before s.after stop why settles;
+    settles = settled_or a.words s.before s.after stop why settles honest;
   })
 
   module _ (asked : Command) (asks : Asks a asked) where
-    pub ends_stopped : (outcome : Outcome) (stop : Stop) → outcome ≡ stopped_outcome 0 stop → ComesToStep s asked (Err stop) → Ends s a left_after outcome
-    ends_stopped outcome stop is (inl closed) = ends_opening outcome stop is closed
-    ends_stopped outcome stop is (inr (why, (state, does))) =
+    pub ends_stopped : (outcome : Outcome) (stop : Stop) → outcome ≡ stopped_outcome 0 stop → IsHonest s.after → ComesToStep s asked (Err stop) → Ends s a left_after outcome
+    ends_stopped outcome stop is honest (inl closed) = ends_opening outcome stop is honest closed
+    ends_stopped outcome stop is honest (inr (why, (state, does))) =
         let then = change_of does.opened s.after in
         let comes : ComesTo then a left_after (stopped_outcome 0 stop) state [] = record {
           fresh = does.fresh;
@@ -255,7 +255,7 @@ module _ (s : Change) (a : Asking) (single : AreRun a.words → ⊥) (command : 
 
   pub cause_stopped : (outcome : Outcome) (stop : Stop) → outcome ≡ stopped_outcome 0 stop → (IsReadingStop stop → ⊥)
       → CountsFault (is_disk_fault stop) s.before.disk_faults s.after.disk_faults → CountsFault (is_output_fault stop) s.before.say_faults s.after.say_faults
-      → (IsTrue s.before.tells_folder → Ends s a left_after outcome) → (IsTrue s.before.tells_folder → (name : List ℕ) → stop ≡ Damaged name → IsFirstDamaged s.before.folder name)
+      → (IsHonest s.after → Ends s a left_after outcome) → (IsHonest s.after → (name : List ℕ) → stop ≡ Damaged name → IsFirstDamaged s.before.folder name)
       → HasCause s a left_after faults faults_after outcome.stop
   cause_stopped outcome stop is later disk output ends named =
       let cause : HasCause s a left_after faults faults_after (Some stop) = record {
@@ -269,7 +269,7 @@ module _ (s : Change) (a : Asking) (single : AreRun a.words → ⊥) (command : 
       subst (λ (o : Outcome). HasCause s a left_after faults faults_after o.stop) (sym is) cause
 
   pub cause_answered : (outcome : Outcome) (refused : Bool) → outcome ≡ ended_outcome 1 refused
-      → s.after.disk_faults ≡ s.before.disk_faults → s.after.say_faults ≡ s.before.say_faults → (IsTrue s.before.tells_folder → Ends s a left_after outcome)
+      → s.after.disk_faults ≡ s.before.disk_faults → s.after.say_faults ≡ s.before.say_faults → (IsHonest s.after → Ends s a left_after outcome)
       → HasCause s a left_after faults faults_after outcome.stop
   cause_answered outcome refused is disk output ends =
       let cause : HasCause s a left_after faults faults_after None = record {

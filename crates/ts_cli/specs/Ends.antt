@@ -1,6 +1,6 @@
--- What a run leaves of a folder that is told, and of the output.
+-- What a run leaves of the folder and the output, where the outside is honest still.
 use Rattle.std.specs.Prelude.{◌≡◌, ◌⊎◌, ℕ, if◌then◌else◌, List, [], ◌∷◌, ◌++◌, length, IsTrue, Option, None, Some, MatchOption, Result, Ok, Err, IfOk}
-use Rattle.ts_site.specs.Outside.{Outside, IsHonest}
+use Rattle.ts_site.specs.Outside.{Falls, Outside}
 use Rattle.ts_script.specs.Lines.{whole_lines}
 use Rattle.ts_script.specs.Script.{AreWholeCommands}
 use Rattle.ts_script.specs.declared.command.Command.{Command}
@@ -14,7 +14,7 @@ use Rattle.ts_store.specs.Stands.{Stands}
 use Rattle.ts_store.specs.State.{IsFresh, State}
 use Rattle.ts_store.specs.Step.{step_of}
 use Rattle.ts_store.specs.Steps.{after, any_refused}
-use Rattle.ts_store.specs.Stops.{IsStepStop, KeepsTelling, kind_of}
+use Rattle.ts_store.specs.Stops.{IsStepStop, kind_of}
 use Rattle.ts_cli.specs.declared.outcome.Outcome.{Outcome}
 use Rattle.ts_cli.specs.Asked.{AreCommands, AreGiven, AreRun, Asking}
 use Rattle.ts_cli.specs.Change.{Change, LeavesAll, change_of}
@@ -27,12 +27,12 @@ use Rattle.ts_cli.specs.Outcomes.{stop_status, stopped_outcome}
 pub record StepsFrom (s : Change) (state : State) (asked : Command) (answer : Result Kind Stop) : Type 0 where
   pub says : FolderSays s.before.folder state
   pub kind : IfOk answer (λ kind. kind ≡ kind_of (step_of state asked).refused)
-  pub told : IsTrue s.before.tells_output → LeavesTold answer (step_of state asked).told s.before.told s.after.told
+  pub told : LeavesTold answer (step_of state asked).told s.before.told s.after.told
   pub folder : LeavesFolder answer state (step_of state asked).state s.before.folder s.after.folder
   pub says_after : LeavesState (FolderSays s.after.folder) answer state (step_of state asked).state
   pub stands_after : Stands s.before.folder state → LeavesState (Stands s.after.folder) answer state (step_of state asked).state
-  pub telling : KeepsTelling s.before s.after
-  pub crash : IsHonest s.before → LeavesCrash answer s.before.crash s.after.crash
+  pub telling : Falls s.before s.after
+  pub crash : LeavesCrash answer s.before.crash s.after.crash
   pub safe : IsSettledAt Stands state s.before → IsSafe Stands state (step_of state asked) answer s.before s.after
 
 -- The commands were done one after another, each from the state that those before it left, and nothing was done before, between and behind
@@ -68,7 +68,7 @@ EndsAfter s a left_after state done (Some stop) =
 -- The folder was opened: all is as it was, and from a moment on a crash leaves just what reads.
 pub record Opens (before opened : Outside) : Type 0 where
   pub all : LeavesAll (change_of before opened)
-  pub settles : IsTrue before.tells_images → SettlesAll before opened
+  pub settles : SettlesAll before opened
 
 -- The open folder tells the state, in which this run has opened no cursor and made no layer yet. These commands were done, and the run ended
 -- behind them.
@@ -114,7 +114,7 @@ pub record StopsEarly (s : Change) (words : List (List ℕ)) (outcome : Outcome)
   pub outcome_is : outcome ≡ stopped_outcome 0 stop
   pub early : IsEarly words stop
   pub all : LeavesAll s
-  pub settles : IsTrue s.before.tells_images → (IsUnsettled words stop × (s.after.crash ≡ s.before.crash)) ⊎ SettlesAll s.before s.after
+  pub settles : (IsUnsettled words stop × (s.after.crash ≡ s.before.crash)) ⊎ SettlesAll s.before s.after
 
 -- The run left all as it was, or came to the commands that are asked for. What is asked is known with what is left of the input after.
 abbrev pub Ends : Change → Asking → List ℕ → Outcome → Type 0

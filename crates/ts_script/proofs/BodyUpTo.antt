@@ -1,6 +1,6 @@
 -- The body of a command of a script, as far as it was read.
 use Rattle.std.proofs.Common.{◌≡◌, ◌↔◌, ℕ, ◌+◌, Bool, true, false, true≢false, List, [], ◌∷◌, ◌++◌, length, map, refl, sym, ◌∙◌, ap, arith, append_assoc, append-nil, length-append}
-use Rattle.std.specs.Prelude.{Option, Result, Ok, Err, IfErr, IsTrue}
+use Rattle.std.specs.Prelude.{Option, Result, Ok, Err, IfErr, IsErrAnd, IsTrue}
 use Rattle.ts_model.specs.declared.signed.SignedTriple.{SignedTriple}
 use Rattle.ts_script.specs.Body.{IsBodyRead, IsFaultOf}
 use Rattle.ts_script.specs.Cutting.{lines_to_come, view_of, GivesLine, HasNoWholeLine, HasSeenAll}
@@ -131,6 +131,10 @@ body-waits start cur new left_start left_cur body fault so_far number waits unen
 pub stop-waits : {A : Type 0} (r : Result A ScriptStop) (fact : Type 0) → fact → IfErr r (λ stop. (stop ≡ Memory → ⊥) → fact)
 stop-waits (Ok x) fact holds = tt
 stop-waits (Err stop) fact holds = λ _. holds
+
+pub waits-passed : {A : Type 0} (r : Result A ScriptStop) (stop : ScriptStop) (fact : Type 0) → IsErrAnd r (λ given. given ≡ stop) → ((stop ≡ Memory → ⊥) → fact) → IfErr r (λ given. (given ≡ Memory → ⊥) → fact)
+waits-passed (Ok x) stop fact same waits = tt
+waits-passed (Err given) stop fact same waits = λ not. waits (λ is. not (same ∙ is))
 
 -- ---- on every source
 

@@ -1,7 +1,8 @@
 -- What several calls on a cutter make together.
-use Rattle.std.proofs.Common.{◌≡◌, ◌+◌, length, ℕ, Bool, true, false, true≢false, refl, List, [], ◌∷◌, ◌++◌, sym, ◌∙◌, ap, arith, inl, inr, append_assoc, append-nil, length-append}
+use Rattle.std.proofs.Common.{◌≡◌, ◌<◌, ◌≤◌, drop, length, ℕ, Bool, true, false, true≢false, refl, List, [], ◌∷◌, ◌++◌, sym, ◌∙◌, ap, arith, inl, inr, append_assoc, append-nil, length-append}
 use Rattle.ts_script.specs.Lines.{LineView}
-use Rattle.ts_script.specs.Cutting.{lines_to_come, next_offset, offset_behind, end_behind, MeansSame, GivesWhole, GivesLine, HasEnded, Takes, Took, IsNext}
+use Rattle.std.proofs.Math.Seq.{drop-append_seam}
+use Rattle.ts_script.specs.Cutting.{lines_to_come, next_offset, offset_behind, end_behind, progress, MeansSame, GivesWhole, GivesLine, HasEnded, IsFresh, Takes, Took, IsNext}
 use Rattle.ts_script.specs.declared.cutter.LineCutter.{LineCutter}
 use Rattle.ts_script.proofs.OffsetLemmas.{offset-here, offset-rises}
 
@@ -139,6 +140,24 @@ pub took-bytes : (a b c : LineCutter) (xs ys : List ℕ) → Took a b xs → Tak
 took-bytes a b c xs ys first takes =
     took-took a b c xs ys first
     (record { taken = takes.taken; limit = takes.limit; given = []; number = omega (arith, takes.number); lines = λ unended more. sym (takes.lines more); ended = takes.ended })
+
+-- as many bytes as the limit allows were taken of what was left
+pub over_limit : (old new : LineCutter) (most : ℕ) (bytes left rest : List ℕ) → IsFresh old most → Took old new bytes → (progress new).taken ≡ (progress new).limit → left ≡ bytes ++ rest
+    → (most ≤ length left) × (rest ≡ drop most left)
+over_limit old new most bytes left rest fresh took full whole =
+    let long : length bytes ≡ most = omega (arith, fresh.limit, fresh.taken, took.taken, took.limit, full) in
+    (omega (arith, long, length-append bytes rest, ap length whole), sym (drop-append_seam bytes rest) ∙ ap (λ (n : ℕ). drop n (bytes ++ rest)) long ∙ ap (drop most) (sym whole))
+
+-- fewer bytes than that were taken, and they are all that was left
+pub below_limit : (old new : LineCutter) (most : ℕ) (bytes left rest : List ℕ) → IsFresh old most → Took old new bytes → (progress new).taken < (progress new).limit → left ≡ bytes ++ rest → rest ≡ []
+    → length left < most
+below_limit old new most bytes left rest fresh took short whole none =
+    omega (arith, fresh.limit, fresh.taken, took.taken, took.limit, short, length-append bytes rest, ap length whole, ap length none)
+
+pub within_limit : (old new : LineCutter) (most : ℕ) (bytes : List ℕ) → IsFresh old most → Took old new bytes → length bytes ≤ most
+within_limit old new most bytes fresh took =
+    let within = new.within in
+    omega (arith, within, fresh.limit, fresh.taken, took.taken, took.limit)
 
 second_nil : (xs ys : List ℕ) → [] ≡ xs ++ ys → ys ≡ []
 second_nil [] ys e = sym e

@@ -4,10 +4,10 @@ use Rattle.std.proofs.lemmas.List.{length-map}
 use Rattle.std.specs.Prelude.{Result, codes}
 use Rattle.ts_model.specs.declared.signed.SignedTriple.{SignedTriple}
 use Rattle.ts_script.specs.Cutting.{buffered, lines_to_come, progress, HasNoWholeLine, Took}
-use Rattle.ts_script.specs.LineWords.{words_in, words_from}
+use Rattle.ts_script.specs.LineWords.{words_from}
 use Rattle.ts_script.specs.Lines.{is_end, line_view, lines_after, lines_behind, lines_of, onto_first, onto_some, whole_lines, whole_lines_after, HasNoEnd}
-use Rattle.ts_script.specs.Script.{closed, HasNoWholeCommand, IsGiven, IsNextCommand, IsPassedOver, IsWholeCommand, LineIs}
-use Rattle.ts_script.specs.ScriptBody.{AreAll, EndsBody, GoesOn, IsBodyUpTo}
+use Rattle.ts_script.specs.Script.{closed, HasNoWholeCommand, IsGiven, IsPassedOver, IsWholeCommand, LineIs}
+use Rattle.ts_script.specs.ScriptBody.{AreAll, GoesOn, IsBodyUpTo}
 use Rattle.ts_script.specs.declared.body.BodyFault.{BodyFault}
 use Rattle.ts_script.specs.declared.command.Command.{Command}
 use Rattle.ts_script.specs.declared.cutter.LineCutter.{LineCutter}

@@ -16,8 +16,8 @@ returns-clause-steps g c = λ state keeps told says.
       says_after = c.step.ensures.says state keeps told says;
       stands_after = c.step.ensures.stands state keeps told;
       telling = c.step.ensures.tells;
-      crash = c.step.ensures.crash keeps.unspent;
-      safe = c.step.ensures.safe state keeps;
+      crash = c.step.ensures.crash keeps.unspent told;
+      safe = c.step.ensures.safe state keeps told;
     }
 
 pub returns-clause-keeps : goal.returns-clause-keeps
