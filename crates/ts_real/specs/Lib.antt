@@ -1,4 +1,5 @@
 pub mod Entry
 pub mod Reading
 pub mod Real
+pub mod Saying
 pub mod Writing

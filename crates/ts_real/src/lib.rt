@@ -4,14 +4,17 @@
 //! - [`RealSource`] is standard input.
 //! - [`write_whole`] writes all of some bytes, for them and for the program's last line.
 //!
-//! Both are the trusted edge. They are proved to keep their traits, and tell no bytes: that a real disk does
-//! what is asked of it can't be proved. They count each failure that they answer.
+//! Both are the trusted edge. They are proved to keep their traits, and tell neither folder nor input: that a real disk does
+//! what is asked of it can't be proved. They count each failure that they answer, and the site keeps a record of what its
+//! output took, which clauses read and no code does.
 #![tactic(auto)]
 
 mod count;
 mod entry;
 mod folder;
 mod reading;
+mod record;
+mod saying;
 mod site;
 mod source;
 mod writing;

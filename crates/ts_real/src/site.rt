@@ -3,7 +3,8 @@ ghost use Rattle.std.specs.Prelude.{◌≡◌};
 
 use crate::count::counted;
 use crate::folder;
-use crate::writing::write_whole;
+use crate::record::Record;
+use crate::saying::say_noted;
 use std::alloc::Global;
 use std::io::{ErrorKind, writer};
 use std::rt::Files;
@@ -16,6 +17,8 @@ pub struct RealSite<R> {
     alloc: Global,
     disk_faults: u64,
     say_faults: u64,
+    failed_last: bool,
+    record: Record,
 }
 
 impl<R: Files + Print + AllocGlobal + Clone + Drop> RealSite<R> {
@@ -32,6 +35,8 @@ impl<R: Files + Print + AllocGlobal + Clone + Drop> RealSite<R> {
             alloc,
             disk_faults: 0,
             say_faults: 0,
+            failed_last: false,
+            record: Record::new(),
         }
     }
 }
@@ -44,12 +49,14 @@ impl<R: Files + Print + AllocGlobal + Clone + Drop> Disk for RealSite<R> {
     ghost reads_image = { λ site honest. owes_none site honest };
 
     fn list(&mut self, alloc: Global, into: &mut Vec<FileName>) -> Result<(), ListFail> {
+        self.failed_last = false;
         match folder::list(&self.rt, into) {
             Ok(()) => Ok(()),
             Err(error) => {
                 if error.kind() == ErrorKind::OutOfMemory {
                     return Err(ListFail::Memory);
                 }
+                self.failed_last = true;
                 self.disk_faults = self.disk_faults.saturating_add(1);
                 Err(ListFail::Failed)
             }
@@ -57,42 +64,75 @@ impl<R: Files + Print + AllocGlobal + Clone + Drop> Disk for RealSite<R> {
     }
 
     fn size(&mut self, name: &FileName) -> Result<Option<u64>, Failed> {
-        counted(&mut self.disk_faults, folder::size(&self.rt, name))
+        counted(
+            &mut self.disk_faults,
+            &mut self.failed_last,
+            folder::size(&self.rt, name),
+        )
     }
 
     fn read_at(&mut self, name: &FileName, place: u64, into: &mut [u8]) -> Result<usize, Failed> {
         counted(
             &mut self.disk_faults,
+            &mut self.failed_last,
             folder::read_at(&self.rt, name, place, into),
         )
     }
 
     fn create(&mut self, name: &FileName) -> Result<(), Failed> {
-        counted(&mut self.disk_faults, folder::create(&self.rt, name))
+        counted(
+            &mut self.disk_faults,
+            &mut self.failed_last,
+            folder::create(&self.rt, name),
+        )
     }
 
     fn append(&mut self, name: &FileName, bytes: &[u8]) -> Result<(), Failed> {
-        counted(&mut self.disk_faults, folder::append(&self.rt, name, bytes))
+        counted(
+            &mut self.disk_faults,
+            &mut self.failed_last,
+            folder::append(&self.rt, name, bytes),
+        )
     }
 
     fn sync(&mut self, name: &FileName) -> Result<(), Failed> {
-        counted(&mut self.disk_faults, folder::sync(&self.rt, name))
+        counted(
+            &mut self.disk_faults,
+            &mut self.failed_last,
+            folder::sync(&self.rt, name),
+        )
     }
 
     fn rename(&mut self, from: &FileName, to: &FileName) -> Result<(), Failed> {
-        counted(&mut self.disk_faults, folder::rename(&self.rt, from, to))
+        counted(
+            &mut self.disk_faults,
+            &mut self.failed_last,
+            folder::rename(&self.rt, from, to),
+        )
     }
 
     fn remove(&mut self, name: &FileName) -> Result<(), Failed> {
-        counted(&mut self.disk_faults, folder::remove(&self.rt, name))
+        counted(
+            &mut self.disk_faults,
+            &mut self.failed_last,
+            folder::remove(&self.rt, name),
+        )
     }
 
     fn sync_names(&mut self) -> Result<(), Failed> {
-        counted(&mut self.disk_faults, folder::sync_names(&self.rt))
+        counted(
+            &mut self.disk_faults,
+            &mut self.failed_last,
+            folder::sync_names(&self.rt),
+        )
     }
 
     fn barrier(&mut self) -> Result<(), Failed> {
-        counted(&mut self.disk_faults, folder::barrier(&self.rt, self.alloc))
+        counted(
+            &mut self.disk_faults,
+            &mut self.failed_last,
+            folder::barrier(&self.rt, self.alloc),
+        )
     }
 }
 
@@ -100,7 +140,8 @@ impl<R: Files + Print + AllocGlobal + Clone + Drop> Site for RealSite<R> {
     fn say(&mut self, piece: &[u8]) -> Result<(), Failed> {
         counted(
             &mut self.say_faults,
-            write_whole(&mut writer(&self.rt), piece),
+            &mut self.failed_last,
+            say_noted(&mut writer(&self.rt), piece, &mut self.record),
         )
     }
 }

@@ -11,6 +11,7 @@ use ts_site::{Failed, Source};
 pub struct RealSource<I> {
     input: I,
     faults: u64,
+    failed_last: bool,
 }
 
 impl<I: Read + Drop> RealSource<I> {
@@ -20,12 +21,16 @@ impl<I: Read + Drop> RealSource<I> {
     pub fn new(input: I) -> RealSource<I>
         ensures { real_faults result ≡ 0 }
     {
-        RealSource { input, faults: 0 }
+        RealSource {
+            input,
+            faults: 0,
+            failed_last: false,
+        }
     }
 }
 
 impl<I: Read + Drop> Source for RealSource<I> {
-    ghost use Rattle.ts_real.specs.Real.{real_faults};
+    ghost use Rattle.ts_real.specs.Real.{real_faults, real_failed_last};
 
     ghost tells = { λ source. false };
 
@@ -33,7 +38,13 @@ impl<I: Read + Drop> Source for RealSource<I> {
 
     ghost faults = { real_faults };
 
+    ghost failed_last = { real_failed_last };
+
     fn take(&mut self, into: &mut [u8]) -> Result<usize, Failed> {
-        counted(&mut self.faults, read_some(&mut self.input, into))
+        counted(
+            &mut self.faults,
+            &mut self.failed_last,
+            read_some(&mut self.input, into),
+        )
     }
 }

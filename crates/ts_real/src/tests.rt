@@ -1,4 +1,5 @@
 use super::*;
+use std::os::unix::fs::symlink;
 use std::test::Fail;
 use ts_site::{Disk, FileName, Site, Source};
 
@@ -28,6 +29,11 @@ fn a_real_file_is_written_and_read(rt: HostRuntime) -> Result<(), Fail> {
     assert_eq!(rt; site.size(&to)?, None);
     assert!(rt; site.read_at(&to, 0, &mut buffer).is_err());
     site.say(b"said\n")?;
+    // No file of the processes' folder can be settled, so a barrier that tries each file fails.
+    symlink(&rt, "/proc/self/status", "real-site-test.link")?;
+    assert!(rt; site.barrier().is_err());
+    site.remove(&FileName::of(b"real-site-test.link").ok_or("name")?)?;
+    site.barrier()?;
     Ok(())
 }
 
@@ -49,6 +55,21 @@ fn a_real_file_is_made_anew_and_replaced(rt: HostRuntime) -> Result<(), Fail> {
     assert_eq!(rt; site.read_at(&to, 0, &mut buffer)?, 3);
     assert_eq!(rt; buffer, *b"new\0\0\0\0\0");
     site.remove(&to)?;
+    Ok(())
+}
+
+#[test]
+fn a_call_on_an_absent_name_fails(rt: HostRuntime) -> Result<(), Fail> {
+    let mut site = RealSite::new(rt.clone()?);
+    let absent = FileName::of(b"real-site-absent.from").ok_or("name")?;
+    let to = FileName::of(b"real-site-absent.to").ok_or("name")?;
+    let mut buffer = [0; 1];
+    assert!(rt; site.append(&absent, b"abc").is_err());
+    assert!(rt; site.rename(&absent, &to).is_err());
+    assert!(rt; site.sync(&absent).is_err());
+    assert!(rt; site.remove(&absent).is_err());
+    assert!(rt; site.read_at(&absent, 0, &mut buffer).is_err());
+    assert_eq!(rt; site.size(&to)?, None);
     Ok(())
 }
 

@@ -1,5 +1,5 @@
 // Writing all that is asked for.
-ghost use Rattle.std.specs.Prelude.{◌≢◌, ◌≤◌, IfOk, IfErr, OnOk, OnErr, length};
+ghost use Rattle.std.specs.Prelude.{◌≡◌, ◌≢◌, ◌≤◌, IfOk, IfErr, OnOk, OnErr, length, take};
 ghost use Rattle.std.specs.IoError.{error_kind};
 ghost use Rattle.std.specs.Io.KnownBytes.{Appends, WriteAppends};
 ghost use Rattle.ts_real.specs.Writing.{AppendsFront};
@@ -13,15 +13,30 @@ pub fn write_whole<W: Write>(out: &mut W, bytes: &[u8]) -> io::Result<()>
     ensures front { OnErr result (AppendsFront (W.contents out.old) (W.contents out.new) bytes.now) }
     ensures retried { IfErr result (λ error. error_kind error ≢ ErrorKind.Interrupted) }
 {
-    let mut rest = bytes;
-    while !rest.is_empty() {
-        let count = write_some(out, rest)?;
-        if count == 0 {
-            return Err(ErrorKind::WriteZero.into());
+    let (_, answer) = write_front(out, bytes);
+    answer
+}
+
+/// The same, with how many of the bytes were written.
+pub fn write_front<W: Write>(out: &mut W, bytes: &[u8]) -> (usize, io::Result<()>)
+    ensures within { result.0 ≤ length bytes.now }
+    ensures bytes { Appends (W.contents out.old) (W.contents out.new) (take result.0 bytes.now) }
+    ensures whole { OnOk result.1 (result.0 ≡ length bytes.now) }
+    ensures retried { IfErr result.1 (λ error. error_kind error ≢ ErrorKind.Interrupted) }
+{
+    let mut taken = 0;
+    while taken < bytes.len() {
+        match write_some(out, &bytes[taken..]) {
+            Ok(count) => {
+                if count == 0 {
+                    return (taken, Err(ErrorKind::WriteZero.into()));
+                }
+                taken += count;
+            }
+            Err(error) => return (taken, Err(error)),
         }
-        rest = &rest[count..];
     }
-    Ok(())
+    (taken, Ok(()))
 }
 
 /// Writes some of the bytes, again where the write was interrupted.

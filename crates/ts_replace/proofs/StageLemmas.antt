@@ -1,11 +1,11 @@
 -- What the calls of a change of a file leave of crashes.
-use Rattle.std.proofs.Common.{◌≡◌, List, ℕ, Option, Some, Result, Ok, Err, IsTrue, sym, ap, subst, ◌∙◌, inl, inr}
+use Rattle.std.proofs.Common.{◌≡◌, ◌⊎◌, List, ℕ, Option, Some, Result, Ok, Err, sym, ap, subst, ◌∙◌, inl, inr}
 use Rattle.std.specs.Prelude.{IsErr, OnOk}
 use Rattle.std.specs.FinMap.{get, insert, remove}
 use Rattle.ts_site.specs.Crash.{CrashState, EachImage, AddsNone, written, synced, renamed, names_settled}
 use Rattle.ts_site.specs.Folder.{Folder}
-use Rattle.ts_site.specs.Moments.{Moment, GoesOn, IsChangedOrNot, Settles}
-use Rattle.ts_site.specs.Outside.{Outside, ChangesCrash, SettlesCrash, moments_of}
+use Rattle.ts_site.specs.Moments.{Moment, GoesOn, IsChangedOrNot, Changes}
+use Rattle.ts_site.specs.Outside.{Outside, IsHonest, ChangesCrash, SettlesCrash, moments_of}
 use Rattle.ts_site.proofs.FolderLemmas.{get-insert_same, remove-insert}
 use Rattle.ts_site.proofs.GoesLemmas.{goes_weaker, goes_more}
 use Rattle.ts_replace.specs.Replaced.{new_tmp, replaced}
@@ -37,9 +37,10 @@ pub written_whole : (old between new : CrashState) (first content : Option (List
 written_whole old between new first content bytes one is reads =
     is ∙ ap (written new_tmp content) one ∙ written-twice new_tmp first content old ∙ ap (λ (c : Option (List ℕ)). written new_tmp c old) reads
 
-pub stages : {E : Type 0} (r : Result (Unit {0}) E) (bytes : List ℕ) (old between new : CrashState) → between ≡ written new_tmp (Some bytes) old → Settles r (synced new_tmp between) between new → StagesCrash r bytes old new
+pub stages : {E : Type 0} (r : Result (Unit {0}) E) (bytes : List ℕ) (old between new : CrashState) → between ≡ written new_tmp (Some bytes) old → Changes r (synced new_tmp between) between new → StagesCrash r bytes old new
 stages (Ok done) bytes old between new is settles = settles ∙ ap (synced new_tmp) is
-stages (Err failed) bytes old between new is settles = inr (Some bytes, settles ∙ is)
+stages (Err failed) bytes old between new is (inl settles) = inr (settles ∙ ap (synced new_tmp) is)
+stages (Err failed) bytes old between new is (inr settles) = inl (inr (Some bytes, settles ∙ is))
 
 -- at each moment a crash leaves the old folder
 abbrev pub IsOld : Outside → Moment → Type 0
@@ -73,9 +74,10 @@ staged_ok (Ok done) bytes folder old new leaves is = subst (LeavesStaged bytes) 
 staged_ok (Err failed) bytes folder old new leaves is = tt
 
 -- the rename and what settles it
-pub places : {E : Type 0} (r : Result (Unit {0}) E) (name : List ℕ) (old between new : CrashState) → between ≡ renamed new_tmp name old → Settles r (names_settled between) between new → PlacesCrash r name old new
+pub places : {E : Type 0} (r : Result (Unit {0}) E) (name : List ℕ) (old between new : CrashState) → between ≡ renamed new_tmp name old → Changes r (names_settled between) between new → PlacesCrash r name old new
 places (Ok done) name old between new is settles = settles ∙ ap names_settled is
-places (Err failed) name old between new is settles = inl (settles ∙ is)
+places (Err failed) name old between new is (inl settles) = inr (settles ∙ ap names_settled is)
+places (Err failed) name old between new is (inr settles) = inl (inl (settles ∙ is))
 
 -- at each moment a crash leaves the old folder or the new one
 abbrev pub IsEither : List ℕ → List ℕ → Outside → Moment → Type 0
@@ -100,8 +102,15 @@ placed_ok (Err failed) name bytes folder old new leaves holds is = tt
 -- both parts of a change
 pub replaces : {E : Type 0} (r : Result (Unit {0}) E) (name bytes : List ℕ) (old between new : CrashState) → between ≡ staged bytes old → PlacesCrash r name between new → ReplacesCrash r name bytes old new
 replaces (Ok done) name bytes old between new is places = places ∙ ap (placed name) is
-replaces (Err failed) name bytes old between new is (inl places) = inr (inl (places ∙ ap (renamed new_tmp name) is))
-replaces (Err failed) name bytes old between new is (inr places) = inr (inr (places ∙ is))
+replaces (Err failed) name bytes old between new is (inl (inl places)) = inr (inl (inl (places ∙ ap (renamed new_tmp name) is)))
+replaces (Err failed) name bytes old between new is (inl (inr places)) = inr (inl (inr (places ∙ is)))
+replaces (Err failed) name bytes old between new is (inr places) = inr (inr (places ∙ ap (placed name) is))
+
+-- the first part failed
+pub unplaced : (name bytes : List ℕ) (old new : CrashState) → IsUnstaged old new ⊎ (new ≡ staged bytes old)
+    → IsUnstaged old new ⊎ IsChangedOrNot (renamed new_tmp name (staged bytes old)) (staged bytes old) new ⊎ (new ≡ placed name (staged bytes old))
+unplaced name bytes old new (inl is) = inl is
+unplaced name bytes old new (inr is) = inr (inl (inr is))
 
 ok_same : {E : Type 0} (r : Result (Unit {0}) E) (P Q : Type 0) → (P → Q) → OnOk r P → OnOk r Q
 ok_same (Ok done) P Q so h = so h
@@ -139,9 +148,9 @@ leaves_staged_folder folder other bytes state is leaves =
 pub reads_whole : (old new : Folder) (name bytes : List ℕ) → name ≡ new_tmp → new ≡ insert old name bytes → get new new_tmp ≡ Some bytes
 reads_whole old new name bytes same is = ap (λ (f : Folder). get f new_tmp) (is ∙ ap (λ (n : List ℕ). insert old n bytes) same) ∙ get-insert_same old new_tmp bytes
 
-pub settles_named : {E : Type 0} (r : Result (Unit {0}) E) (name : List ℕ) (old new : Outside) → name ≡ new_tmp → SettlesCrash r (synced name old.crash) old new → IsTrue old.tells_images
-    → Settles r (synced new_tmp old.crash) old.crash new.crash
-settles_named r name old new same settles told = subst (λ (n : List ℕ). Settles r (synced n old.crash) old.crash new.crash) same (settles told)
+pub settles_named : {E : Type 0} (r : Result (Unit {0}) E) (name : List ℕ) (old new : Outside) → name ≡ new_tmp → SettlesCrash r (synced name old.crash) old new → IsHonest new
+    → Changes r (synced new_tmp old.crash) old.crash new.crash
+settles_named r name old new same settles told = subst (λ (n : List ℕ). Changes r (synced n old.crash) old.crash new.crash) same (settles told)
 
 pub named_rename : {E : Type 0} (r : Result (Unit {0}) E) (from name : List ℕ) (old new : Outside) → from ≡ new_tmp → ChangesCrash r (renamed from name old.crash) old new → ChangesCrash r (renamed new_tmp name old.crash) old new
 named_rename r from name old new same change = subst (λ (n : List ℕ). ChangesCrash r (renamed n name old.crash) old new) same change

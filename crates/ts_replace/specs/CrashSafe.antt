@@ -19,18 +19,18 @@ placed name state = names_settled (renamed new_tmp name state)
 abbrev pub IsUnstaged : CrashState → CrashState → Type 0
 IsUnstaged old new = (new ≡ old) ⊎ ((content : Option (List ℕ)) × (new ≡ written new_tmp content old))
 
--- what a crash leaves after `stage`, `place` and `replace`
+-- What a crash leaves after `stage`, `place` and `replace`. A last call that settles may have settled and fail all the same.
 abbrev pub StagesCrash : {E : Type 0} → Result (Unit {0}) E → List ℕ → CrashState → CrashState → Type 0
-StagesCrash result bytes old new = MatchResult result (λ _. new ≡ staged bytes old) (λ _. IsUnstaged old new)
+StagesCrash result bytes old new = MatchResult result (λ _. new ≡ staged bytes old) (λ _. IsUnstaged old new ⊎ (new ≡ staged bytes old))
 
 abbrev pub PlacesCrash : {E : Type 0} → Result (Unit {0}) E → List ℕ → CrashState → CrashState → Type 0
-PlacesCrash result name old new = MatchResult result (λ _. new ≡ placed name old) (λ _. IsChangedOrNot (renamed new_tmp name old) old new)
+PlacesCrash result name old new = MatchResult result (λ _. new ≡ placed name old) (λ _. IsChangedOrNot (renamed new_tmp name old) old new ⊎ (new ≡ placed name old))
 
 abbrev pub ReplacesCrash : {E : Type 0} → Result (Unit {0}) E → List ℕ → List ℕ → CrashState → CrashState → Type 0
 ReplacesCrash result name bytes old new =
     MatchResult result
     (λ _. new ≡ placed name (staged bytes old))
-    (λ _. IsUnstaged old new ⊎ IsChangedOrNot (renamed new_tmp name (staged bytes old)) (staged bytes old) new)
+    (λ _. IsUnstaged old new ⊎ IsChangedOrNot (renamed new_tmp name (staged bytes old)) (staged bytes old) new ⊎ (new ≡ placed name (staged bytes old)))
 
 -- the folders are the same but for the temporary file
 abbrev pub AgreesBut : List ℕ → Folder → Folder → Type 0

@@ -12,10 +12,10 @@ use ts_site::{Disk, Failed, FileName, Site};
 /// folder, compared but for `new.tmp`, where one before did.
 pub fn stage<W: Site>(site: &mut W, name: &FileName, bytes: &[u8]) -> Result<(), Failed>
     requires { name.now ≢ new_tmp }
-    ensures folder { IsTrue (W.outside site.old).tells_folder
+    ensures folder { IsHonest (W.outside site.new)
         → (Writes result new_tmp (insert (W.outside site.old).folder new_tmp bytes.now) (W.outside site.old).folder (W.outside site.new).folder) }
-    ensures crash { IsHonest (W.outside site.old) → StagesCrash result bytes.now (W.outside site.old).crash (W.outside site.new).crash }
-    ensures images { IsHonest (W.outside site.old) → LeavesFolder (W.outside site.old).folder (W.outside site.old).crash
+    ensures crash { IsHonest (W.outside site.new) → StagesCrash result bytes.now (W.outside site.old).crash (W.outside site.new).crash }
+    ensures images { IsHonest (W.outside site.new) → LeavesFolder (W.outside site.old).folder (W.outside site.old).crash
         → StagesSafely result bytes.now (W.outside site.old) (W.outside site.new) }
     ensures disk { OnlyDisk (is_err result) (W.outside site.old) (W.outside site.new) }
 {
@@ -28,15 +28,15 @@ pub fn stage<W: Site>(site: &mut W, name: &FileName, bytes: &[u8]) -> Result<(),
 /// Moves `new.tmp` to the name and settles the names. The first failure ends the call.
 pub fn place<W: Site>(site: &mut W, name: &FileName, bytes: &[u8]) -> Result<(), Failed>
     requires other { name.now ≢ new_tmp }
-    requires standing { IsTrue (W.outside site.old).tells_folder → IsTrue (contains_key (W.outside site.old).folder new_tmp) }
-    ensures folder { IsTrue (W.outside site.old).tells_folder
+    requires standing { IsHonest (W.outside site.old) → IsTrue (contains_key (W.outside site.old).folder new_tmp) }
+    ensures folder { IsHonest (W.outside site.new)
         → (Renames result (moved (W.outside site.old).folder new_tmp name.now) (W.outside site.old).folder (W.outside site.new).folder) }
 
     // Where `new.tmp` holds the bytes, the name holds them.
-    ensures staged { IsTrue (W.outside site.old).tells_folder → get (W.outside site.old).folder new_tmp ≡ Some bytes.now
+    ensures staged { IsHonest (W.outside site.new) → get (W.outside site.old).folder new_tmp ≡ Some bytes.now
         → OnOk result ((W.outside site.new).folder ≡ replaced (W.outside site.old).folder name.now bytes.now) }
-    ensures crash { IsHonest (W.outside site.old) → PlacesCrash result name.now (W.outside site.old).crash (W.outside site.new).crash }
-    ensures images { IsHonest (W.outside site.old) → LeavesFolder (W.outside site.old).folder (W.outside site.old).crash → LeavesStaged bytes.now (W.outside site.old).crash
+    ensures crash { IsHonest (W.outside site.new) → PlacesCrash result name.now (W.outside site.old).crash (W.outside site.new).crash }
+    ensures images { IsHonest (W.outside site.new) → LeavesFolder (W.outside site.old).folder (W.outside site.old).crash → LeavesStaged bytes.now (W.outside site.old).crash
         → ReplacesSafely result name.now bytes.now (W.outside site.old) (W.outside site.new) }
     ensures disk { OnlyDisk (is_err result) (W.outside site.old) (W.outside site.new) }
 {
@@ -49,10 +49,10 @@ pub fn place<W: Site>(site: &mut W, name: &FileName, bytes: &[u8]) -> Result<(),
 /// name, and one after Ok leaves the latter.
 pub fn replace<W: Site>(site: &mut W, name: &FileName, bytes: &[u8]) -> Result<(), Failed>
     requires { name.now ≢ new_tmp }
-    ensures folder { IsTrue (W.outside site.old).tells_folder
+    ensures folder { IsHonest (W.outside site.new)
         → (Replaces result name.now bytes.now (W.outside site.old).folder (W.outside site.new).folder) }
-    ensures crash { IsHonest (W.outside site.old) → ReplacesCrash result name.now bytes.now (W.outside site.old).crash (W.outside site.new).crash }
-    ensures images { IsHonest (W.outside site.old) → LeavesFolder (W.outside site.old).folder (W.outside site.old).crash
+    ensures crash { IsHonest (W.outside site.new) → ReplacesCrash result name.now bytes.now (W.outside site.old).crash (W.outside site.new).crash }
+    ensures images { IsHonest (W.outside site.new) → LeavesFolder (W.outside site.old).folder (W.outside site.old).crash
         → ReplacesSafely result name.now bytes.now (W.outside site.old) (W.outside site.new) }
     ensures disk { OnlyDisk (is_err result) (W.outside site.old) (W.outside site.new) }
 {

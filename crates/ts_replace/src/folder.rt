@@ -4,7 +4,7 @@ ghost use Rattle.std.specs.Ordering.{nat_cmp};
 ghost use Rattle.std.specs.Cmp.Lexicographic.{slice_cmp};
 ghost use Rattle.std.specs.List.Sorted.{IsStrictlyIncreasing, IsStrictlySortedBy};
 ghost use Rattle.ts_site.specs.Faults.{is_err_and};
-ghost use Rattle.ts_site.specs.Outside.{KeepsCrash, OnlyReads};
+ghost use Rattle.ts_site.specs.Outside.{IsHonest, KeepsCrash, OnlyReads};
 ghost use Rattle.ts_model.specs.LayerText.{layer_text};
 ghost use Rattle.ts_model.specs.Names.{IsLabelName};
 ghost use Rattle.ts_replace.specs.Names.{IsLayerNumber};
@@ -30,7 +30,7 @@ impl Folder {
         ensures rising { IfOk result (λ found. Rise found.layers.items found.rollups.items found.labels.items) }
         ensures numbers { IfOk result (λ found. All IsLayerNumber found.layers.items) }
         ensures rollup_numbers { IfOk result (λ found. All IsLayerNumber found.rollups.items) }
-        ensures names { IsTrue (W.outside site.old).tells_folder
+        ensures names { IsHonest (W.outside site.new)
             → IfOk result (λ found. AreThoseOf (W.outside site.old).folder found.layers.items found.rollups.items found.labels.items) }
         ensures crash { KeepsCrash (W.outside site.old) (W.outside site.new) }
         ensures reads { OnlyReads (is_err_and is_scan_fault result) (W.outside site.old) (W.outside site.new) }

@@ -17,7 +17,7 @@ failed_is_fault (Err error) h = ap is_scan_fault h
 
 pub returns-in_err-count-clause-crash : goal.returns-in_err-count-clause-crash
 returns-in_err-count-clause-crash g c =
-    keeps_more false (g.W.Disk.outside c.args.site.now) (g.W.Disk.outside c.loop-place.site) (g.W.Disk.outside c.read_at.new.self) c.loop-place.invariant.reads c.loop-place.invariant.crash c.in_err-count.ensures.crash
+    keeps_more (g.W.Disk.outside c.args.site.now) (g.W.Disk.outside c.loop-place.site) (g.W.Disk.outside c.read_at.new.self) c.in_err-count.ensures.reads.telling c.loop-place.invariant.crash c.in_err-count.ensures.crash
 
 pub returns-in_err-count-clause-reads : goal.returns-in_err-count-clause-reads
 returns-in_err-count-clause-reads g c =
@@ -28,7 +28,7 @@ pub loop-place-preserved : goal.loop-place-preserved
 loop-place-preserved g c = record {
   within = grind (arith, common_steps);
   front = grind (arith, common_steps);
-  crash = keeps_more false (g.W.Disk.outside c.args.site.now) (g.W.Disk.outside c.loop-place.site) (g.W.Disk.outside c.read_at.new.self) c.loop-place.invariant.reads c.loop-place.invariant.crash c.in_ok-count.ensures.crash;
+  crash = keeps_more (g.W.Disk.outside c.args.site.now) (g.W.Disk.outside c.loop-place.site) (g.W.Disk.outside c.read_at.new.self) c.in_ok-count.ensures.reads.telling c.loop-place.invariant.crash c.in_ok-count.ensures.crash;
   reads = reads_more false (g.W.Disk.outside c.args.site.now) (g.W.Disk.outside c.loop-place.site) (g.W.Disk.outside c.read_at.new.self) c.loop-place.invariant.reads c.in_ok-count.ensures.reads;
 }
 
@@ -43,5 +43,5 @@ pub returns-clause-crash : goal.returns-clause-crash
 returns-clause-crash g c = elim c.loop-place-test.branch [
   | else-loop-place-test w ↦ subst (λ site. KeepsCrash (g.W.Disk.outside c.args.site.now) (g.W.Disk.outside site)) (sym w.site-is) c.loop-place.invariant.crash
   | then-loop-place-test+in_ok-count+then-count-eq0 w ↦ subst (λ site. KeepsCrash (g.W.Disk.outside c.args.site.now) (g.W.Disk.outside site)) (sym w.site-is)
-      (keeps_more false (g.W.Disk.outside c.args.site.now) (g.W.Disk.outside c.loop-place.site) (g.W.Disk.outside w.read_at.new.self) c.loop-place.invariant.reads c.loop-place.invariant.crash w.in_ok-count.ensures.crash)
+      (keeps_more (g.W.Disk.outside c.args.site.now) (g.W.Disk.outside c.loop-place.site) (g.W.Disk.outside w.read_at.new.self) w.in_ok-count.ensures.reads.telling c.loop-place.invariant.crash w.in_ok-count.ensures.crash)
 ]
