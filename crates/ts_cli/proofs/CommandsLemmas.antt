@@ -95,7 +95,7 @@ whole_all before lines (asked ∷ done) next rest given more (taken, behind, all
       (taken, whole, refl, one, are),
     )
 
--- ---- the script of the lines
+-- ---- the whole script
 
 -- where no command is left they are the whole script
 pub first_whole : (before : ℕ) (lines : List (List ℕ)) (done : List Command) (next : ℕ) (rest : List (List ℕ)) → AreFirst before lines done next rest → AreAll IsPassedOver rest → AreScript before lines done

@@ -22,7 +22,7 @@ use Rattle.ts_store.proofs.SettledLaws.{leaves_settled, settled_stands}
 use Rattle.ts_cli.specs.Asked.{AreCommands, Asking}
 use Rattle.ts_cli.specs.Change.{Change, LeavesAll, change_of}
 use Rattle.ts_cli.specs.Crash.{IsCrashSafe, IsOpeningMoment, IsPrefixMoment, LeavesAfter}
-use Rattle.ts_cli.specs.Ends.{AreDone, ComesTo, Ends, EndsAfter, IsUnsettled, Opens, OpensAndComes, StepsFrom, StopsEarly}
+use Rattle.ts_cli.specs.Ends.{AreDone, ComesTo, Ends, EndsAfter, IsUnsettled, LeavesUnsettled, Opens, OpensAndComes, StepsFrom, StopsEarly}
 use Rattle.ts_cli.specs.declared.outcome.Outcome.{Outcome}
 use Rattle.ts_cli.proofs.CommandsLemmas.{after_front, after_next, after_none, answers_none}
 use Rattle.ts_cli.proofs.HeadlineLaws.{all_same, given_first, same_state}
@@ -280,7 +280,7 @@ comes_telling a b asking left_after outcome state done comes =
 module _ (s : Change) (honest : IsHonest s.after) (a : Asking) (told_input : IsTrue a.tells) (state : State) (fresh : IsFresh state) (stands : Stands s.before.folder state)
     (commands : List Command) (are : AreCommands a.words a.left commands) (left_after : List ℕ) (outcome : Outcome) where
   -- a run that stopped before its first command
-  stopped_safe : (early : StopsEarly s a.words outcome) → (IsUnsettled a.words early.stop × (s.after.crash ≡ s.before.crash)) ⊎ SettlesAll s.before s.after
+  stopped_safe : (early : StopsEarly s a.words outcome) → (IsUnsettled a.words early.stop × LeavesUnsettled early.stop s.before s.after) ⊎ SettlesAll s.before s.after
       → IsCrashSafe a.words outcome state commands s.before s.after
   stopped_safe early (inl (unsettled, same)) = inl (record {
     stop = early.stop;

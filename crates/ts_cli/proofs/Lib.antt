@@ -2,6 +2,7 @@ mod CauseLaws
 mod CommandsLemmas
 mod CrashLaws
 mod HeadlineLaws
+mod ListLaws
 mod InputLemmas
 mod ScriptLaws
 mod SingleLaws

@@ -3,6 +3,7 @@ use Rattle.std.specs.Prelude.{◌≡◌, ◌⊎◌, ℕ, ◌^◌, ◌≤◌, Boo
 use Rattle.ts_site.specs.Faults.{CountsFault}
 use Rattle.ts_site.specs.Folder.{Folder}
 use Rattle.ts_site.specs.Outside.{IsHonest}
+use Rattle.ts_script.specs.Heads.{HaveTerms}
 use Rattle.ts_store.specs.declared.stop.Stop.{Stop}
 use Rattle.ts_store.specs.declared.stop.Stop.TheVariants.{Usage, Damaged, DiskFault, InputFault, OutputFault, InputLimit, Memory}
 use Rattle.ts_store.specs.FolderSays.{IsFirstDamaged}
@@ -11,9 +12,9 @@ use Rattle.ts_cli.specs.Asked.{AreNoWords, AreRun, Asking, ReadInput}
 use Rattle.ts_cli.specs.Change.{Change}
 use Rattle.ts_cli.specs.Outcomes.{IsAfterReading}
 
--- usage exactly where the words are no command and not `run`, but for want of memory
+-- usage exactly where the words are no command and not `run`, but for want of memory for the terms that they name behind a REF
 abbrev pub UsageCause : List (List ℕ) → Option Stop → Type 0
-UsageCause words stop = (stop ≡ Some Usage → AreNoWords words) × (AreNoWords words → (stop ≡ Some Usage) ⊎ (stop ≡ Some Memory))
+UsageCause words stop = (stop ≡ Some Usage → AreNoWords words) × (AreNoWords words → (stop ≡ Some Usage) ⊎ ((stop ≡ Some Memory) × HaveTerms words))
 
 -- whether there is a stop that passes the test
 abbrev pub is_stop_and : (Stop → Bool) → Option Stop → Bool

@@ -1,5 +1,7 @@
 -- What a run leaves of the folder and the output, where the outside is honest still.
 use Rattle.std.specs.Prelude.{◌≡◌, ◌⊎◌, ℕ, if◌then◌else◌, List, [], ◌∷◌, ◌++◌, length, IsTrue, Option, None, Some, MatchOption, Result, Ok, Err, IfOk}
+use Rattle.ts_site.specs.Crash.{settled}
+use Rattle.ts_site.specs.Moments.{IsChangedOrNot}
 use Rattle.ts_site.specs.Outside.{Falls, Outside}
 use Rattle.ts_script.specs.Lines.{whole_lines}
 use Rattle.ts_script.specs.Script.{AreWholeCommands}
@@ -108,13 +110,18 @@ IsUnsettled words DiskFault = Unit {0}
 IsUnsettled words (Damaged name) = ⊥
 IsUnsettled words OutputFault = ⊥
 
--- the run stopped so, left all as it was, and settled the folder before or nothing
+-- What a crash leaves then: what it left before; where the barrier failed, maybe just what reads.
+abbrev pub LeavesUnsettled : Stop → Outside → Outside → Type 0
+LeavesUnsettled DiskFault before after = IsChangedOrNot (settled before.folder) before.crash after.crash
+LeavesUnsettled _ before after = after.crash ≡ before.crash
+
+-- the run stopped so, left all as it was, and settled the folder before or not
 pub record StopsEarly (s : Change) (words : List (List ℕ)) (outcome : Outcome) : Type 0 where
   pub stop : Stop
   pub outcome_is : outcome ≡ stopped_outcome 0 stop
   pub early : IsEarly words stop
   pub all : LeavesAll s
-  pub settles : (IsUnsettled words stop × (s.after.crash ≡ s.before.crash)) ⊎ SettlesAll s.before s.after
+  pub settles : (IsUnsettled words stop × LeavesUnsettled stop s.before s.after) ⊎ SettlesAll s.before s.after
 
 -- The run left all as it was, or came to the commands that are asked for. What is asked is known with what is left of the input after.
 abbrev pub Ends : Change → Asking → List ℕ → Outcome → Type 0

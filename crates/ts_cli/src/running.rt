@@ -7,7 +7,8 @@ ghost use Rattle.ts_store.specs.FolderSays.{IsFirstDamaged};
 ghost use Rattle.ts_store.specs.Stands.{Stands};
 ghost use Rattle.ts_store.specs.State.{IsFresh, State};
 ghost use Rattle.ts_cli.specs.Asked.{AreCommands, AreNoWords, AreRun, ReadInput, asking};
-ghost use Rattle.ts_cli.specs.Causes.{HasCause};
+ghost use Rattle.ts_store.specs.Stops.{is_site_fault};
+ghost use Rattle.ts_cli.specs.Causes.{HasCause, is_input_fault, is_stop_and};
 ghost use Rattle.ts_cli.specs.Change.{change_of};
 ghost use Rattle.ts_cli.specs.Crash.{IsCrashSafe};
 ghost use Rattle.ts_cli.specs.Ends.{Ends};
@@ -79,6 +80,10 @@ pub fn run<W: Site, S: Source>(
     ensures unread { (ReadInput (map string_bytes words.now) → ⊥) → input.new ≡ input.old }
     ensures opened_first { AreRun (map string_bytes words.now) → (name : List ℕ) → result.stop ≡ Some (Stop.Damaged name) → input.new ≡ input.old }
     ensures tells { Falls (W.outside site.old) (W.outside site.new) × (IsTrue (S.tells input.new) → IsTrue (S.tells input.old)) }
+
+    // No call follows a fault that is answered: the last one failed.
+    ensures site_last { IsTrue (is_stop_and is_site_fault result.stop) → IsTrue (W.outside site.new).failed_last }
+    ensures input_last { IsTrue (is_stop_and is_input_fault result.stop) → IsTrue (S.failed_last input.new) }
 {
     if are_run(words) {
         return run_script(alloc, site, input);

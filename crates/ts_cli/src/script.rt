@@ -11,7 +11,7 @@ ghost use Rattle.ts_store.specs.FolderSays.{FolderSays};
 ghost use Rattle.ts_store.specs.Keeps.{Keeps, spent_by};
 ghost use Rattle.ts_store.specs.State.{IsFresh, State};
 ghost use Rattle.ts_store.specs.Step.{step_of};
-ghost use Rattle.ts_store.specs.Stops.{IsStepStop, is_disk_fault, is_output_fault, spent_after};
+ghost use Rattle.ts_store.specs.Stops.{IsStepStop, is_disk_fault, is_output_fault, is_site_fault, spent_after};
 ghost use Rattle.ts_cli.specs.Asked.{IsOfScript, asking, run_words};
 ghost use Rattle.ts_cli.specs.Causes.{HasCause, IsOverLimit, is_input_fault, is_stop_and};
 ghost use Rattle.ts_cli.specs.Change.{change_of};
@@ -37,6 +37,8 @@ pub(crate) fn run_script<W: Site, S: Source>(alloc: Global, site: &mut W, input:
     ensures status { HasStatus run_words result }
     ensures read_all { IsTrue (S.tells input.new) → result.stop ≡ None → S.left input.new ≡ [] }
     ensures opened_first { (name : List ℕ) → result.stop ≡ Some (Stop.Damaged name) → input.new ≡ input.old }
+    ensures site_last { IsTrue (is_stop_and is_site_fault result.stop) → IsTrue (W.outside site.new).failed_last }
+    ensures input_last { IsTrue (is_stop_and is_input_fault result.stop) → IsTrue (S.failed_last input.new) }
     ensures tells { Falls (W.outside site.old) (W.outside site.new) × (IsTrue (S.tells input.new) → IsTrue (S.tells input.old)) }
 {
     match Session::open(alloc, site) {
@@ -63,6 +65,8 @@ fn do_commands<W: Site, S: Source>(
     ensures all { IsTrue (S.tells input.new) → IfNone result.stop (S.left input.new ≡ []) }
     ensures short { IsTrue (S.tells input.new) → IfNone result.stop (length (S.left input.old) < 2 ^ 40) }
     ensures status { MatchOption result.stop (result.status ≤ 1) (λ stop. result.status ≡ stop_status stop) }
+    ensures site_last { IsTrue (is_stop_and is_site_fault result.stop) → IsTrue (W.outside site.new).failed_last }
+    ensures input_last { IsTrue (is_stop_and is_input_fault result.stop) → IsTrue (S.failed_last input.new) }
     ensures tells { Falls (W.outside site.old) (W.outside site.new) × (IsTrue (S.tells input.new) → IsTrue (S.tells input.old)) }
 {
     let Ok(mut cutter) = LineCutter::new(alloc, INPUT_LIMIT) else {
@@ -98,6 +102,7 @@ fn read_next<S: Source>(
         → (lines : List (List ℕ)) → lines_to_come cutter.old (S.left input.old) ≡ map line_view lines
         → IfErr result (λ stop. (stop ≡ Stop.Memory → ⊥) → WaitsForMore cutter.old cutter.new lines) }
     ensures why { IfErr result IsBetween }
+    ensures input_last { IsTrue (is_err_and is_input_fault result) → IsTrue (S.failed_last input.new) }
     ensures counts { CountsFault (is_err_and is_input_fault result) (S.faults input.old) (S.faults input.new) }
 {
     match next_command(alloc, cutter, input) {
@@ -118,6 +123,7 @@ fn do_command<W: Site>(session: &mut Session, site: &mut W, command: Command) ->
     ensures spends { spent_by session.new ≡ spent_after result }
     ensures disk { CountsFault (is_err_and is_disk_fault result) (W.outside site.old).disk_faults (W.outside site.new).disk_faults }
     ensures say { CountsFault (is_err_and is_output_fault result) (W.outside site.old).say_faults (W.outside site.new).say_faults }
+    ensures site_last { IsTrue (is_err_and is_site_fault result) → IsTrue (W.outside site.new).failed_last }
     ensures tells { Falls (W.outside site.old) (W.outside site.new) }
 {
     step(session, site, &command)
@@ -133,6 +139,7 @@ fn step<W: Site>(session: &mut Session, site: &mut W, command: &Command) -> Resu
     ensures spends { spent_by session.new ≡ spent_after result }
     ensures disk { CountsFault (is_err_and is_disk_fault result) (W.outside site.old).disk_faults (W.outside site.new).disk_faults }
     ensures say { CountsFault (is_err_and is_output_fault result) (W.outside site.old).say_faults (W.outside site.new).say_faults }
+    ensures site_last { IsTrue (is_err_and is_site_fault result) → IsTrue (W.outside site.new).failed_last }
     ensures tells { Falls (W.outside site.old) (W.outside site.new) }
 {
     session.step(site, command)

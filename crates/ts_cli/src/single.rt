@@ -3,11 +3,12 @@ ghost use Rattle.std.specs.Prelude.{◌≡◌, ◌⊎◌, ◌<◌, ◌^◌, ℕ,
 ghost use Rattle.ts_site.specs.Faults.{CountsFault, is_err_and};
 ghost use Rattle.ts_site.specs.Outside.{Falls, IsHonest};
 ghost use Rattle.ts_script.specs.Commands.{AwaitBody, IsNoCommand};
+ghost use Rattle.ts_script.specs.Heads.{HaveTerms};
 ghost use Rattle.ts_script.specs.declared.command.Command.{Command};
 ghost use Rattle.ts_store.specs.FolderSays.{IsFirstDamaged};
-ghost use Rattle.ts_store.specs.Stops.{is_disk_fault, is_output_fault};
+ghost use Rattle.ts_store.specs.Stops.{is_disk_fault, is_output_fault, is_site_fault};
 ghost use Rattle.ts_cli.specs.Asked.{AreRun, Asks, ReadInput, asking};
-ghost use Rattle.ts_cli.specs.Causes.{HasCause, IsOverLimit, is_input_fault};
+ghost use Rattle.ts_cli.specs.Causes.{HasCause, IsOverLimit, is_input_fault, is_stop_and};
 ghost use Rattle.ts_cli.specs.Change.{change_of};
 ghost use Rattle.ts_cli.specs.Ends.{Ends};
 ghost use Rattle.ts_cli.specs.Outcomes.{HasStatus, IsAfterReading, IsReadingStop};
@@ -18,7 +19,7 @@ use crate::running::INPUT_LIMIT;
 use crate::tally::is_refused;
 use crate::{Outcome, Stop, stopped};
 use std::alloc::Global;
-use ts_script::{Command, LineCutter, ScriptStop, first_command};
+use ts_script::{Command, ScriptStop, first_command};
 use ts_site::{Disk, Site, Source};
 use ts_store::{Kind, Session};
 
@@ -26,20 +27,18 @@ use ts_store::{Kind, Session};
 fn read_command<S: Source>(alloc: Global, words: &[String], input: &mut S) -> Result<Command, Stop>
     ensures asks { IfOk result (Asks (asking (map string_bytes words.now) (S.tells input.new) (S.left input.old))) }
     ensures usage { IfErr result (λ stop. stop ≡ Stop.Usage → IsNoCommand (map string_bytes words.now)) }
-    ensures no_command { IsNoCommand (map string_bytes words.now) → (result ≡ Err Stop.Usage) ⊎ (result ≡ Err Stop.Memory) }
+    ensures no_command { IsNoCommand (map string_bytes words.now) → (result ≡ Err Stop.Usage) ⊎ ((result ≡ Err Stop.Memory) × HaveTerms (map string_bytes words.now)) }
     ensures untouched { (AwaitBody (map string_bytes words.now) → ⊥) → input.new ≡ input.old }
     ensures all { IsTrue (S.tells input.new) → AwaitBody (map string_bytes words.now) → OnOk result (S.left input.new ≡ []) }
     ensures short { IsTrue (S.tells input.new) → AwaitBody (map string_bytes words.now) → OnOk result (length (S.left input.old) < 2 ^ 40) }
     ensures limit { IsTrue (S.tells input.new) → IfErr result (λ stop. stop ≡ Stop.InputLimit → IsOverLimit (S.left input.old) (S.left input.new)) }
     ensures reads { IfErr result (λ stop. stop ≡ Stop.InputLimit → AwaitBody (map string_bytes words.now)) }
     ensures why { IfErr result (λ stop. (stop ≡ Stop.Memory) ⊎ IsReadingStop stop) }
+    ensures input_last { IsTrue (is_err_and is_input_fault result) → IsTrue (S.failed_last input.new) }
     ensures counts { CountsFault (is_err_and is_input_fault result) (S.faults input.old) (S.faults input.new) }
     ensures tells { IsTrue (S.tells input.new) → IsTrue (S.tells input.old) }
 {
-    let Ok(mut cutter) = LineCutter::new(alloc, INPUT_LIMIT) else {
-        return Err(Stop::Memory);
-    };
-    match first_command(alloc, words, &mut cutter, input) {
+    match first_command(alloc, words, INPUT_LIMIT, input) {
         Ok(Some(command)) => Ok(command),
         Ok(None) => Err(Stop::Usage),
         Err(ScriptStop::Fault) => Err(Stop::InputFault),
@@ -54,6 +53,7 @@ fn step<W: Site>(alloc: Global, site: &mut W, command: &Command) -> Result<Kind,
     ensures damaged { IsHonest (W.outside site.new)
         → IfErr result (λ stop. (name : List ℕ) → stop ≡ Stop.Damaged name → IsFirstDamaged (W.outside site.old).folder name) }
     ensures why { IfErr result (λ stop. IsReadingStop stop → ⊥) }
+    ensures site_last { IsTrue (is_err_and is_site_fault result) → IsTrue (W.outside site.new).failed_last }
     ensures tells { Falls (W.outside site.old) (W.outside site.new) }
     ensures disk { CountsFault (is_err_and is_disk_fault result) (W.outside site.old).disk_faults (W.outside site.new).disk_faults }
     ensures output { CountsFault (is_err_and is_output_fault result) (W.outside site.old).say_faults (W.outside site.new).say_faults }
@@ -80,6 +80,8 @@ pub(crate) fn run_command<W: Site, S: Source>(
     ensures read_all { IsTrue (S.tells input.new) → ReadInput (map string_bytes words.now) → IsAfterReading (map string_bytes words.now) result.stop
         → S.left input.new ≡ [] }
     ensures unread { (ReadInput (map string_bytes words.now) → ⊥) → input.new ≡ input.old }
+    ensures site_last { IsTrue (is_stop_and is_site_fault result.stop) → IsTrue (W.outside site.new).failed_last }
+    ensures input_last { IsTrue (is_stop_and is_input_fault result.stop) → IsTrue (S.failed_last input.new) }
     ensures tells { Falls (W.outside site.old) (W.outside site.new) × (IsTrue (S.tells input.new) → IsTrue (S.tells input.old)) }
 {
     match read_command(alloc, words, input) {
