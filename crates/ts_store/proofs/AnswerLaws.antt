@@ -1,5 +1,5 @@
 -- What a command does that changes nothing.
-use Rattle.std.proofs.Common.{◌≡◌, Bool, true, List, ℕ, Result, Ok, Err, IfOk, IfErr, inl, refl, sym, subst, ◌∙◌}
+use Rattle.std.proofs.Common.{◌≡◌, Bool, true, List, ℕ, IsTrue, Result, Ok, Err, IfOk, IfErr, inl, refl, sym, subst, ◌∙◌}
 use Rattle.ts_site.specs.Faults.{CountsFault, is_err_and}
 use Rattle.ts_site.specs.Folder.{Folder}
 use Rattle.ts_site.specs.Outside.{Outside}
@@ -15,7 +15,7 @@ use Rattle.ts_store.specs.FolderSays.{FolderSays}
 use Rattle.ts_store.specs.Leaves.{LeavesFolder, LeavesState}
 use Rattle.ts_store.specs.State.{State}
 use Rattle.ts_store.specs.Stepped.{Stepped, at_found, does, refuses}
-use Rattle.ts_store.specs.Stops.{IsStepStop, is_disk_fault, is_output_fault, kind_of}
+use Rattle.ts_store.specs.Stops.{IsStepStop, is_disk_fault, is_output_fault, is_site_fault, kind_of}
 use Rattle.ts_store.proofs.SafeLaws.{one_file_said, safe_said}
 
 -- ---- the output's failures are query stops
@@ -89,6 +89,18 @@ module _ (state : State) (cursors : Cursors) (text : List ℕ) (refused : Bool) 
   no_disk_fault (Err InputFault) why e = absurd why
   no_disk_fault (Err InputLimit) why e = absurd why
 
+  -- the only fault of such a step is one of the output
+  query_last : (result : Result Kind Stop) → IfErr result IsQueryStop → (IsTrue (is_err_and is_output_fault result) → IsTrue new.failed_last)
+      → IsTrue (is_err_and is_site_fault result) → IsTrue new.failed_last
+  query_last (Ok kind) why last fault = last fault
+  query_last (Err OutputFault) why last fault = last fault
+  query_last (Err Memory) why last fault = last fault
+  query_last (Err Usage) why last fault = absurd why
+  query_last (Err (Damaged name)) why last fault = absurd why
+  query_last (Err DiskFault) why last fault = absurd why
+  query_last (Err InputFault) why last fault = absurd why
+  query_last (Err InputLimit) why last fault = absurd why
+
   pub does_beside : (result : Result Kind Stop) → IfErr result IsQueryStop → IfOk result (λ _. after ≡ next) → Answers text refused result old new
       → Does state (record { state = next; told = text; refused = refused }) result after old new
   does_beside result why is answers = record {
@@ -100,10 +112,11 @@ module _ (state : State) (cursors : Cursors) (text : List ℕ) (refused : Bool) 
     why = step_stop result why;
     disk = no_disk_fault result why answers.says.disk.same_faults;
     say = answers.says.counts;
-    telling = record { folder = answers.says.disk.same_telling; output = answers.says.telling; images = answers.says.images.telling };
-    crash = λ honest. inl (answers.says.images.now honest.images);
+    last = query_last result why answers.says.last;
+    telling = answers.says.telling;
+    crash = λ honest. inl (answers.says.images.now honest);
     one_file = one_file_said (is_err_and is_output_fault result) old new answers.says;
-    safe = λ at. safe_said state next text refused result old new answers (λ image says. image_next image says) at;
+    safe = λ honest at. safe_said state next text refused result old new answers (λ image says. image_next image says) honest at;
   }
 
 unchanged : (state : State) (result : Result Kind Stop) → IfOk result (λ _. state ≡ state)

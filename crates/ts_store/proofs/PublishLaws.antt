@@ -23,8 +23,8 @@ use Rattle.ts_script.specs.declared.reply.Refusal.TheVariants as refusal
 use Rattle.ts_site.specs.Faults.{CountsFault, is_err_and}
 use Rattle.ts_site.specs.Folder.{Folder}
 use Rattle.ts_replace.specs.CrashSafe.{LeavesFolder as CrashLeaves, ReplacesCrash}
-use Rattle.ts_site.specs.Outside.{IsHonest, OnlySays, Outside}
-use Rattle.ts_site.proofs.GoesLemmas.{says_nothing}
+use Rattle.ts_site.specs.Outside.{Falls, IsHonest, Outside}
+use Rattle.ts_site.proofs.GoesLemmas.{says_none}
 use Rattle.ts_store.specs.Safe.{ChangesSafely, change_result}
 use Rattle.ts_store.proofs.SafeLaws.{one_file_changed, one_file_said, safe_change, safe_nothing}
 use Rattle.ts_site.proofs.FolderLemmas.{get-insert_same, get-insert_other, get-remove_other}
@@ -41,7 +41,7 @@ use Rattle.ts_store.specs.Publishes.{AddsLayerTo, KeepsLayers, LeavesReplaced}
 use Rattle.ts_store.specs.State.{State}
 use Rattle.ts_store.specs.Makes.{has_room, is_counted_at, makes, next_number, with_layer, with_newest}
 use Rattle.ts_store.specs.Stepped.{Stepped, does, refuses}
-use Rattle.ts_store.specs.Stops.{KeepsTelling, is_disk_fault, is_output_fault, kind_of}
+use Rattle.ts_store.specs.Stops.{is_disk_fault, is_output_fault, is_site_fault, kind_of}
 use Rattle.ts_store.specs.Store.{IsNextLayer, IsSound, state_of}
 use Rattle.ts_store.proofs.AnswerLaws.{does_answer, output_alone}
 use Rattle.ts_store.proofs.ChangeLaws.{folder_after, says_after, stop_after}
@@ -51,24 +51,22 @@ use Rattle.ts_store.proofs.NextLaws.{history_of-next}
 
 -- ---- where memory runs out
 
-pub only_nothing : (outside : Outside) → OnlySays false outside outside
-only_nothing outside = record { telling = refl; counts = refl; disk = record { same_telling = refl; same_folder = refl; same_faults = refl }; images = says_nothing outside }
-
 -- nothing is done and nothing said
 pub does_nothing : (before : State) (stepped : Stepped) (after : State) (outside : Outside) → 0 < length stepped.told → Does before stepped (Err Memory) after outside outside
 does_nothing before stepped after outside longer = record {
   state = tt;
-  told = λ _. (0, longer, inl refl, sym (append-nil outside.told));
+  told = (0, longer, inl refl, sym (append-nil outside.told));
   folder = λ _. refl;
   tells_state = λ _ says. says;
-  refused = λ _. only_nothing outside;
+  refused = λ _. says_none outside;
   why = tt;
   disk = refl;
   say = refl;
-  telling = record { folder = refl; output = refl; images = refl };
+  last = λ fault. absurd (true≢false (sym fault));
+  telling = λ honest. honest;
   crash = λ honest. inl refl;
-  one_file = one_file_said false outside outside (only_nothing outside);
-  safe = λ at. safe_nothing before stepped Memory outside at;
+  one_file = one_file_said false outside outside (says_none outside);
+  safe = λ _ _. safe_nothing before stepped Memory outside;
 }
 
 longer_line : (text : List ℕ) → 0 < length (line text)
@@ -264,35 +262,37 @@ module _ (layers : List PlainLayer) (labels : Labels) (cursors : Cursors) (last 
 
   module _ (layers_after : List PlainLayer) (last_after : Option ℕ) (result : Result Kind Stop) (old new : Outside)
       (kept : MatchResult result (λ kind. (kind ≡ Done) × AddsLayerTo layer layers layers_after last_after) (λ _. AddsLayerTo layer layers layers_after last_after ⊎ KeepsLayers layers last layers_after last_after))
-      (told : IsTrue old.tells_output → LeavesTold result (reply_text (reply.Layer layer.number)) old.told new.told)
-      (folder : IsTrue old.tells_folder → LeavesReplaced result (layer_name layer.number) file old.folder new.folder)
+      (told : LeavesTold result (reply_text (reply.Layer layer.number)) old.told new.told)
+      (folder : IsHonest new → LeavesReplaced result (layer_name layer.number) file old.folder new.folder)
       (why : IfErr result (λ stop. (stop ≡ DiskFault) ⊎ (stop ≡ OutputFault)))
       (disk : CountsFault (is_err_and is_disk_fault result) old.disk_faults new.disk_faults)
       (say : CountsFault (is_err_and is_output_fault result) old.say_faults new.say_faults)
-      (telling : KeepsTelling old new)
-      (crash : IsHonest old → ReplacesCrash (change_result result) (layer_name layer.number) file old.crash new.crash)
-      (safe : IsHonest old → CrashLeaves old.folder old.crash → ChangesSafely result (layer_name layer.number) file (reply_text (reply.Layer layer.number)) old new) where
+      (failing : IsTrue (is_err_and is_site_fault result) → IsTrue new.failed_last)
+      (telling : Falls old new)
+      (crash : IsHonest new → ReplacesCrash (change_result result) (layer_name layer.number) file old.crash new.crash)
+      (safe : IsHonest new → CrashLeaves old.folder old.crash → ChangesSafely result (layer_name layer.number) file (reply_text (reply.Layer layer.number)) old new) where
     -- the reply tells the number that the layer has
-    safe_numbered : IsHonest old → CrashLeaves old.folder old.crash → ChangesSafely result (layer_name layer.number) file (reply_text (reply.Layer (next_number (history_of layers)))) old new
+    safe_numbered : IsHonest new → CrashLeaves old.folder old.crash → ChangesSafely result (layer_name layer.number) file (reply_text (reply.Layer (next_number (history_of layers)))) old new
     safe_numbered honest leaves = subst (λ n. ChangesSafely result (layer_name layer.number) file (reply_text (reply.Layer n)) old new) next.number (safe honest leaves)
 
     does_make : Does before (made_or_full before (record_of layer) true) result (state_of layers_after labels cursors last_after) old new
     does_make = record {
       state = state_after layers_after last_after result kept;
-      told = λ tells. subst (λ n. LeavesTold result (reply_text (reply.Layer n)) old.told new.told) next.number (told tells);
+      told = subst (λ n. LeavesTold result (reply_text (reply.Layer n)) old.told new.told) next.number told;
       folder = λ tells. folder_after before next_state (layer_name layer.number) file old.folder new.folder (follows old.folder new.folder) result why (folder tells);
       tells_state = λ tells says. says_after before next_state (layer_name layer.number) file old.folder new.folder says (says_put old.folder new.folder says) result why (folder tells);
       refused = λ no. absurd (true≢false (sym no));
       why = stop_after result why;
       disk = disk;
       say = say;
+      last = failing;
       telling = telling;
       crash = λ honest. inr (layer_name layer.number, file, crash honest);
       one_file = one_file_changed (layer_name layer.number) file (reply_text (reply.Layer layer.number)) result old new safe;
-      safe = λ at.
+      safe = λ honest at.
           safe_change before next_state (layer_name layer.number) file (reply_text (reply.Layer (next_number (history_of layers)))) result old new
           (longer_line (codes "layer " ++ layer_text (next_number (history_of layers)))) (λ says. says_put old.folder (replaced old.folder (layer_name layer.number) file) says refl)
-          (folder at.honest.folder) (safe_numbered at.honest at.leaves) at;
+          (folder honest) (safe_numbered honest at.leaves) at;
     }
 
     pub does_publish : Does before (makes before (record_of layer)) result (state_of layers_after labels cursors last_after) old new

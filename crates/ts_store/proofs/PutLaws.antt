@@ -17,7 +17,7 @@ use Rattle.ts_replace.specs.Replaced.{new_tmp, replaced}
 use Rattle.ts_site.specs.Faults.{CountsFault, is_err_and}
 use Rattle.ts_site.specs.Folder.{Folder}
 use Rattle.ts_replace.specs.CrashSafe.{LeavesFolder as CrashLeaves, ReplacesCrash}
-use Rattle.ts_site.specs.Outside.{IsHonest, Outside}
+use Rattle.ts_site.specs.Outside.{Falls, IsHonest, Outside}
 use Rattle.ts_store.specs.Safe.{ChangesSafely, change_result}
 use Rattle.ts_script.specs.declared.reply.Reply.TheVariants.{LabelIs}
 use Rattle.ts_store.proofs.PrefixLaws.{reply_is_longer}
@@ -42,7 +42,7 @@ use Rattle.ts_store.specs.Resolve.{find_label, find_target}
 use Rattle.ts_store.specs.State.{State}
 use Rattle.ts_store.specs.Step.{step_of}
 use Rattle.ts_store.specs.Stepped.{at_found}
-use Rattle.ts_store.specs.Stops.{KeepsTelling, is_disk_fault, is_output_fault, kind_of}
+use Rattle.ts_store.specs.Stops.{is_disk_fault, is_output_fault, is_site_fault, kind_of}
 use Rattle.ts_store.specs.Store.{IsSound, state_of}
 use Rattle.ts_store.proofs.AnswerLaws.{does_answer, does_found, does_refused, output_alone}
 use Rattle.ts_store.proofs.ChangeLaws.{folder_after, says_after, stop_after}
@@ -90,14 +90,15 @@ module _ (before : State) (name : List ℕ) (label : Label) (is : IsLabelOf befo
 
 module _ (before : State) (name : List ℕ) (label : Label) (is : IsLabelOf before.history name label) (other : get before.labels name ≡ Some label → ⊥) (after : State) (result : Result Kind Stop) (old new : Outside)
     (kept : IfOk result (λ kind. (kind ≡ Done) × (after ≡ with_label before name label)))
-    (told : IsTrue old.tells_output → LeavesTold result (label_line name label) old.told new.told)
-    (folder : IsTrue old.tells_folder → LeavesReplaced result (label_file_name name) (label_text label) old.folder new.folder)
+    (told : LeavesTold result (label_line name label) old.told new.told)
+    (folder : IsHonest new → LeavesReplaced result (label_file_name name) (label_text label) old.folder new.folder)
     (why : IfErr result (λ stop. (stop ≡ DiskFault) ⊎ (stop ≡ OutputFault)))
     (disk : CountsFault (is_err_and is_disk_fault result) old.disk_faults new.disk_faults)
     (say : CountsFault (is_err_and is_output_fault result) old.say_faults new.say_faults)
-    (telling : KeepsTelling old new)
-    (crash : IsHonest old → ReplacesCrash (change_result result) (label_file_name name) (label_text label) old.crash new.crash)
-    (safe : IsHonest old → CrashLeaves old.folder old.crash → ChangesSafely result (label_file_name name) (label_text label) (label_line name label) old new) where
+    (failing : IsTrue (is_err_and is_site_fault result) → IsTrue new.failed_last)
+    (telling : Falls old new)
+    (crash : IsHonest new → ReplacesCrash (change_result result) (label_file_name name) (label_text label) old.crash new.crash)
+    (safe : IsHonest new → CrashLeaves old.folder old.crash → ChangesSafely result (label_file_name name) (label_text label) (label_line name label) old new) where
   abbrev next : State
   next = with_label before name label
 
@@ -121,12 +122,13 @@ module _ (before : State) (name : List ℕ) (label : Label) (is : IsLabelOf befo
     why = stop_after result why;
     disk = disk;
     say = say;
+    last = failing;
     telling = telling;
     crash = λ honest. inr (label_file_name name, label_text label, crash honest);
     one_file = one_file_changed (label_file_name name) (label_text label) (label_line name label) result old new safe;
-    safe = λ at.
+    safe = λ honest at.
         safe_change before next (label_file_name name) (label_text label) (label_line name label) result old new (reply_is_longer (LabelIs name label.version label.layer))
-        (λ says. says_label before name label is old.folder says) (folder at.honest.folder) (safe at.honest at.leaves) at;
+        (λ says. says_label before name label is old.folder says) (folder honest) (safe honest at.leaves) at;
   }
 
 -- ---- the labels in memory
@@ -176,17 +178,17 @@ module _ (layers : List PlainLayer) (labels : Labels) (cursors : Cursors) (last 
   sound_made = sound_after layers labels cursors last state view_is sound name label after result made_label_is put
 
   pub does_made : (old new : Outside)
-      → (IsTrue old.tells_output → LeavesTold result (label_line name label) old.told new.told)
-      → (IsTrue old.tells_folder → LeavesReplaced result (label_file_name name) (label_text label) old.folder new.folder)
+      → LeavesTold result (label_line name label) old.told new.told
+      → (IsHonest new → LeavesReplaced result (label_file_name name) (label_text label) old.folder new.folder)
       → IfErr result (λ stop. (stop ≡ DiskFault) ⊎ (stop ≡ OutputFault))
-      → CountsFault (is_err_and is_disk_fault result) old.disk_faults new.disk_faults → CountsFault (is_err_and is_output_fault result) old.say_faults new.say_faults → KeepsTelling old new
-      → (IsHonest old → ReplacesCrash (change_result result) (label_file_name name) (label_text label) old.crash new.crash)
-      → (IsHonest old → CrashLeaves old.folder old.crash → ChangesSafely result (label_file_name name) (label_text label) (label_line name label) old new)
+      → CountsFault (is_err_and is_disk_fault result) old.disk_faults new.disk_faults → CountsFault (is_err_and is_output_fault result) old.say_faults new.say_faults → (IsTrue (is_err_and is_site_fault result) → IsTrue new.failed_last) → Falls old new
+      → (IsHonest new → ReplacesCrash (change_result result) (label_file_name name) (label_text label) old.crash new.crash)
+      → (IsHonest new → CrashLeaves old.folder old.crash → ChangesSafely result (label_file_name name) (label_text label) (label_line name label) old new)
       → Does state (step_of state (LabelNew name)) result (state_of layers after cursors last) old new
-  does_made old new told folder why disk say telling crash safe =
+  does_made old new told folder why disk say failing telling crash safe =
       subst (λ (r : Result Label LabelError). Does state (puts state name r) result (state_of layers after cursors last) old new)
       (sym (ap (λ (s : State). made_label (get s.labels name)) (sym view_is) ∙ made))
-      (does_put state name label made_label_is (λ f. made_other (get labels name) label made (ap (λ (s : State). get s.labels name) view_is ∙ f)) (state_of layers after cursors last) result old new (kept_after layers labels cursors last state view_is sound name label after result put) told folder why disk say telling crash safe)
+      (does_put state name label made_label_is (λ f. made_other (get labels name) label made (ap (λ (s : State). get s.labels name) view_is ∙ f)) (state_of layers after cursors last) result old new (kept_after layers labels cursors last state view_is sound name label after result put) told folder why disk say failing telling crash safe)
 
 -- ---- a label that is moved
 
@@ -224,13 +226,13 @@ module _ (layers : List PlainLayer) (labels : Labels) (cursors : Cursors) (last 
     sound_moved = sound_after layers labels cursors last state view_is sound name label after result moved_label_is put
 
     pub does_move : (old new : Outside)
-        → (IsTrue old.tells_output → LeavesTold result (label_line name label) old.told new.told)
-        → (IsTrue old.tells_folder → LeavesReplaced result (label_file_name name) (label_text label) old.folder new.folder)
+        → LeavesTold result (label_line name label) old.told new.told
+        → (IsHonest new → LeavesReplaced result (label_file_name name) (label_text label) old.folder new.folder)
         → IfErr result (λ stop. (stop ≡ DiskFault) ⊎ (stop ≡ OutputFault))
-        → CountsFault (is_err_and is_disk_fault result) old.disk_faults new.disk_faults → CountsFault (is_err_and is_output_fault result) old.say_faults new.say_faults → KeepsTelling old new
-        → (IsHonest old → ReplacesCrash (change_result result) (label_file_name name) (label_text label) old.crash new.crash)
-        → (IsHonest old → CrashLeaves old.folder old.crash → ChangesSafely result (label_file_name name) (label_text label) (label_line name label) old new)
+        → CountsFault (is_err_and is_disk_fault result) old.disk_faults new.disk_faults → CountsFault (is_err_and is_output_fault result) old.say_faults new.say_faults → (IsTrue (is_err_and is_site_fault result) → IsTrue new.failed_last) → Falls old new
+        → (IsHonest new → ReplacesCrash (change_result result) (label_file_name name) (label_text label) old.crash new.crash)
+        → (IsHonest new → CrashLeaves old.folder old.crash → ChangesSafely result (label_file_name name) (label_text label) (label_line name label) old new)
         → Does state (step_of state (LabelSet name version to)) result (state_of layers after cursors last) old new
-    does_move old new told folder why disk say telling crash safe =
+    does_move old new told folder why disk say failing telling crash safe =
         step_moved (Ok label) result (state_of layers after cursors last) old new moved
-        (does_put state name label moved_label_is other_moved (state_of layers after cursors last) result old new (kept_after layers labels cursors last state view_is sound name label after result put) told folder why disk say telling crash safe)
+        (does_put state name label moved_label_is other_moved (state_of layers after cursors last) result old new (kept_after layers labels cursors last state view_is sound name label after result put) told folder why disk say failing telling crash safe)

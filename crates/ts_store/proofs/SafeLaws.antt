@@ -8,12 +8,11 @@ use Rattle.ts_replace.specs.CrashSafe.{AgreesBut, LeavesFolder, LeavesEither, Re
 use Rattle.ts_replace.specs.Names.{layer_name, rollup_name, label_file_name}
 use Rattle.ts_replace.specs.Replaced.{new_tmp, replaced}
 use Rattle.ts_site.specs.Crash.{CrashState, AddsNone, EachImage, IsImage, is_loose, settled}
-use Rattle.ts_site.specs.Faults.{is_err_and}
 use Rattle.ts_site.specs.Folder.{Extends, Folder}
-use Rattle.ts_site.specs.Moments.{Moment}
+use Rattle.ts_site.specs.Moments.{Moment, IsChangedOrNot}
 use Rattle.ts_site.specs.Outside.{Outside, IsHonest, AddsNoImage, OnlyReads, OnlySays, moments_of}
 use Rattle.ts_site.proofs.CrashLemmas.{only_one}
-use Rattle.ts_site.proofs.GoesLemmas.{goes_more, goes_none, goes_weaker, honest_says}
+use Rattle.ts_site.proofs.GoesLemmas.{goes_more, goes_none, goes_weaker}
 use Rattle.ts_store.specs.declared.stop.Stop.{Stop}
 use Rattle.ts_store.specs.declared.stop.Stop.TheVariants.{Usage, Damaged, DiskFault, InputFault, OutputFault, InputLimit, Memory}
 use Rattle.ts_store.specs.declared.stop.Kind.{Kind}
@@ -25,7 +24,6 @@ use Rattle.ts_store.specs.Safe.{ChangesOneFile, ChangesSafely, IsChangeMoment, I
 use Rattle.ts_store.specs.Stands.{AreCounted, Stands}
 use Rattle.ts_store.specs.State.{State}
 use Rattle.ts_store.specs.Stepped.{Stepped}
-use Rattle.ts_store.specs.Stops.{is_output_fault}
 use Rattle.ts_store.proofs.NameLaws.{layer_is_not_new, rollup_is_not_new, label_is_not_new}
 
 -- ---- the temporary file says nothing
@@ -79,13 +77,13 @@ leaves_still folder folder_after crash crash_after same still leaves =
     subst (λ (f : Folder). LeavesFolder f crash_after) (sym same) (subst (λ (c : CrashState). LeavesFolder folder c) (sym still) leaves)
 
 module _ (before after : State) (text : List ℕ) (refused : Bool) (result : Result Kind Stop) (old new : Outside) (answers : Answers text refused result old new)
-    (becomes : (image : Folder) → FolderSays image before → FolderSays image after) (at : IsSettledAt FolderSays before old) where
+    (becomes : (image : Folder) → FolderSays image before → FolderSays image after) (honest : IsHonest new) (at : IsSettledAt FolderSays before old) where
   abbrev stepped : Stepped
   stepped = record { state = after; told = text; refused = refused }
 
   said_moment : (moment : Moment) → (moment.crash ≡ old.crash) × Extends old.told moment.told × Extends moment.told new.told → IsStepMoment FolderSays before stepped old.told moment
   said_moment moment (same, from, to) =
-      let (count, front) = said_front result text old.told new.told (answers.told at.honest.output) moment.told from to in
+      let (count, front) = said_front result text old.told new.told answers.told moment.told from to in
       let says : EachImage (λ image. FolderSays image before) moment.crash =
       λ image is. agrees_says old.folder image before (at.leaves image (subst (λ (c : CrashState). IsImage c image) same is)) at.is in
       record {
@@ -99,18 +97,16 @@ module _ (before after : State) (text : List ℕ) (refused : Bool) (result : Res
   safe_said = record {
     moments =
         goes_weaker (λ moment. (moment.crash ≡ old.crash) × Extends old.told moment.told × Extends moment.told new.told) (IsStepMoment FolderSays before stepped old.told)
-        (moments_of old) (moments_of new) said_moment (answers.says.images.moments at.honest.images);
-    ok = on_ok result (leaves_still old.folder new.folder old.crash new.crash answers.says.disk.same_folder (answers.says.images.now at.honest.images) at.leaves);
-    honest = honest_says (is_err_and is_output_fault result) old new answers.says at.honest;
+        (moments_of old) (moments_of new) said_moment (answers.says.images.moments honest);
+    ok = on_ok result (leaves_still old.folder new.folder old.crash new.crash answers.says.disk.same_folder (answers.says.images.now honest) at.leaves);
   }
 
 -- ---- a step that does nothing
 
-pub safe_nothing : (before : State) (stepped : Stepped) (stop : Stop) (outside : Outside) → IsSettledAt FolderSays before outside → IsSafe FolderSays before stepped (Err stop) outside outside
-safe_nothing before stepped stop outside at = record {
+pub safe_nothing : (before : State) (stepped : Stepped) (stop : Stop) (outside : Outside) → IsSafe FolderSays before stepped (Err stop) outside outside
+safe_nothing before stepped stop outside = record {
   moments = goes_none (IsStepMoment FolderSays before stepped outside.told) (moments_of outside);
   ok = tt;
-  honest = at.honest;
 }
 
 -- ---- a step that changes a file
@@ -141,12 +137,11 @@ module _ (before next : State) (name bytes text : List ℕ) (result : Result Kin
   safe_change = record {
     moments = goes_weaker (IsChangeMoment name bytes text old) (IsStepMoment FolderSays before makes old.told) (moments_of old) (moments_of new) change_moment changes.moments;
     ok = ok_change result folder changes.ok;
-    honest = changes.honest;
   }
 
 -- ---- a change of a file that is told
 
-module _ (name bytes text : List ℕ) (old middle : Outside) {E : Type 0} (given : Result (Unit {0}) E) (safely : ReplacesSafely given name bytes old middle) (honest : IsHonest middle) where
+module _ (name bytes text : List ℕ) (old middle : Outside) {E : Type 0} (given : Result (Unit {0}) E) (safely : ReplacesSafely given name bytes old middle) where
   replaced_moment : (moment : Moment) → LeavesEither name bytes old.folder moment.crash × (moment.told ≡ old.told) → IsChangeMoment name bytes text old moment
   replaced_moment moment (either, same) = record {
     count = 0;
@@ -160,10 +155,9 @@ module _ (name bytes text : List ℕ) (old middle : Outside) {E : Type 0} (given
     moments =
         goes_weaker (λ moment. LeavesEither name bytes old.folder moment.crash × (moment.told ≡ old.told)) (IsChangeMoment name bytes text old) (moments_of old) (moments_of middle) replaced_moment safely.at_each;
     ok = tt;
-    honest = honest;
   }
 
-  module _ (done : is_err given ≡ false) (silent : middle.told ≡ old.told) (result : Result Kind Stop) (new : Outside) (answers : Answers text false result middle new) where
+  module _ (done : is_err given ≡ false) (silent : middle.told ≡ old.told) (result : Result Kind Stop) (new : Outside) (answers : Answers text false result middle new) (honest : IsHonest new) where
     settled_then : LeavesFolder (replaced old.folder name bytes) middle.crash
     settled_then = by_result given done safely.ok
       where
@@ -173,7 +167,7 @@ module _ (name bytes text : List ℕ) (old middle : Outside) {E : Type 0} (given
 
     told_moment : (moment : Moment) → (moment.crash ≡ middle.crash) × Extends middle.told moment.told × Extends moment.told new.told → IsChangeMoment name bytes text old moment
     told_moment moment (same, from, to) =
-        let (count, front) = said_front result text middle.told new.told (answers.told honest.output) moment.told from to in
+        let (count, front) = said_front result text middle.told new.told answers.told moment.told from to in
         let leaves : LeavesFolder (replaced old.folder name bytes) moment.crash = subst (λ (c : CrashState). LeavesFolder (replaced old.folder name bytes) c) (sym same) settled_then in
         record {
           count = count;
@@ -188,9 +182,8 @@ module _ (name bytes text : List ℕ) (old middle : Outside) {E : Type 0} (given
           goes_more (IsChangeMoment name bytes text old) (moments_of old) (moments_of middle) (moments_of new)
           (goes_weaker (λ moment. LeavesEither name bytes old.folder moment.crash × (moment.told ≡ old.told)) (IsChangeMoment name bytes text old) (moments_of old) (moments_of middle) replaced_moment safely.at_each)
           (goes_weaker (λ moment. (moment.crash ≡ middle.crash) × Extends middle.told moment.told × Extends moment.told new.told) (IsChangeMoment name bytes text old) (moments_of middle) (moments_of new) told_moment
-          (answers.says.images.moments honest.images));
-      ok = on_ok result (subst (λ (c : CrashState). LeavesFolder (replaced old.folder name bytes) c) (sym (answers.says.images.now honest.images)) settled_then);
-      honest = honest_says (is_err_and is_output_fault result) middle new answers.says honest;
+          (answers.says.images.moments honest));
+      ok = on_ok result (subst (λ (c : CrashState). LeavesFolder (replaced old.folder name bytes) c) (sym (answers.says.images.now honest)) settled_then);
     }
 
 -- ---- a folder that stands for the state
@@ -212,7 +205,6 @@ module _ (before : State) (stepped : Stepped) (result : Result Kind Stop) (old n
   safe_stands safe = record {
     moments = goes_weaker (IsStepMoment FolderSays before stepped old.told) (IsStepMoment Stands before stepped old.told) (moments_of old) (moments_of new) stands_moment safe.moments;
     ok = safe.ok;
-    honest = safe.honest;
   }
 
 -- ---- the opening
@@ -229,14 +221,14 @@ pub settled_only : (folder : Folder) (crash : CrashState) → AddsNone crash (se
 settled_only folder crash adds = λ image is. settled_leaves folder image (adds image is)
 
 -- a folder that was settled reads as it did
-pub settled_reads : (old middle : Outside) → OnlyReads false old middle → (IsTrue old.tells_images → middle.crash ≡ settled old.folder) → IsHonest middle → middle.crash ≡ settled middle.folder
+pub settled_reads : (old middle : Outside) → OnlyReads false old middle → (IsHonest middle → middle.crash ≡ settled old.folder) → IsHonest middle → middle.crash ≡ settled middle.folder
 settled_reads old middle reads settles honest =
-    settles (subst (λ (b : Bool). IsTrue b) reads.images.telling honest.images) ∙ ap settled (sym (reads.folder (subst (λ (b : Bool). IsTrue b) reads.telling honest.folder)))
+    settles honest ∙ ap settled (sym (reads.folder honest))
 
 -- a folder that was settled, and then only read
-module _ (old middle new : Outside) (before : OnlyReads false old middle) (settles : IsTrue old.tells_images → middle.crash ≡ settled old.folder) (since : AddsNoImage middle new) where
-  settles_all : IsTrue old.tells_images → SettlesAll old new
-  settles_all told = record { middle = middle; settles = settles told; before = before; since = since }
+module _ (old middle new : Outside) (before : OnlyReads false old middle) (settles : IsHonest middle → middle.crash ≡ settled old.folder) (since : AddsNoImage middle new) where
+  settles_all : IsHonest new → SettlesAll old new
+  settles_all told = record { middle = middle; settles = settles (since.telling told); before = before; since = since }
 
   stops_settled : (stop : Stop) → StopsSettled stop old new
   stops_settled DiskFault = λ told. inr (settles_all told)
@@ -251,8 +243,8 @@ module _ (old middle new : Outside) (before : OnlyReads false old middle) (settl
   opening_settles (Ok opened) = settles_all
   opening_settles (Err stop) = stops_settled stop
 
--- a barrier that failed
-pub opening_fails : (stop : Stop) (old new : Outside) → stop ≡ DiskFault → (IsTrue old.tells_images → new.crash ≡ old.crash) → StopsSettled stop old new
+-- a barrier that failed, and settled or not
+pub opening_fails : (stop : Stop) (old new : Outside) → stop ≡ DiskFault → (IsHonest new → IsChangedOrNot (settled old.folder) old.crash new.crash) → StopsSettled stop old new
 opening_fails stop old new is same = subst (λ (s : Stop). StopsSettled s old new) (sym is) (λ told. inl (same told))
 
 -- ---- what a crash leaves of a change of one file that is told
@@ -285,10 +277,10 @@ one_file_said fault old new says honest leaves = (
   new_tmp,
   [],
   goes_weaker (λ moment. (moment.crash ≡ old.crash) × Extends old.told moment.told × Extends moment.told new.told) (λ moment. LeavesEither new_tmp [] old.folder moment.crash) (moments_of old) (moments_of new)
-      (λ moment still image is. inl (leaves image (subst (λ (c : CrashState). IsImage c image) still.0 is))) (says.images.moments honest.images),
+      (λ moment still image is. inl (leaves image (subst (λ (c : CrashState). IsImage c image) still.0 is))) (says.images.moments honest),
 )
 
-pub one_file_changed : (name bytes text : List ℕ) (result : Result Kind Stop) (old new : Outside) → (IsHonest old → LeavesFolder old.folder old.crash → ChangesSafely result name bytes text old new) → ChangesOneFile old new
+pub one_file_changed : (name bytes text : List ℕ) (result : Result Kind Stop) (old new : Outside) → (IsHonest new → LeavesFolder old.folder old.crash → ChangesSafely result name bytes text old new) → ChangesOneFile old new
 one_file_changed name bytes text result old new safely honest leaves = (
   name,
   bytes,

@@ -1,10 +1,10 @@
 -- What a crash leaves of a step, of a change of one file that is told, and of the opening.
-use Rattle.std.specs.Prelude.{◌≡◌, ◌⊎◌, ◌≤◌, ℕ, List, ◌++◌, take, length, IsTrue, false, OnOk, MatchResult, Result, Ok, Err}
+use Rattle.std.specs.Prelude.{◌≡◌, ◌⊎◌, ◌≤◌, ℕ, List, ◌++◌, take, length, false, OnOk, MatchResult, Result, Ok, Err}
 use Rattle.ts_replace.specs.CrashSafe.{LeavesFolder, LeavesEither, ReplacesCrash}
 use Rattle.ts_replace.specs.Replaced.{replaced}
 use Rattle.ts_site.specs.Crash.{CrashState, EachImage, settled}
 use Rattle.ts_site.specs.Folder.{Folder}
-use Rattle.ts_site.specs.Moments.{Moment, GoesOn}
+use Rattle.ts_site.specs.Moments.{Moment, GoesOn, IsChangedOrNot}
 use Rattle.ts_site.specs.Outside.{Outside, AddsNoImage, IsHonest, OnlyReads, moments_of}
 use Rattle.ts_store.specs.declared.stop.Kind.{Kind}
 use Rattle.ts_store.specs.declared.stop.Stop.{Stop}
@@ -12,9 +12,8 @@ use Rattle.ts_store.specs.declared.stop.Stop.TheVariants.{DiskFault}
 use Rattle.ts_store.specs.State.{State}
 use Rattle.ts_store.specs.Stepped.{Stepped}
 
--- The outside is honest, its folder is that of the state, and a crash leaves that folder, whatever it leaves of the temporary file.
+-- The folder is that of the state, and a crash leaves that folder, whatever it leaves of the temporary file.
 pub record IsSettledAt (Is : Folder → State → Type 0) (state : State) (outside : Outside) : Type 0 where
-  pub honest : IsHonest outside
   pub is : Is outside.folder state
   pub leaves : LeavesFolder outside.folder outside.crash
 
@@ -30,7 +29,6 @@ pub record IsStepMoment (Is : Folder → State → Type 0) (before : State) (ste
 pub record IsSafe (Is : Folder → State → Type 0) (before : State) (stepped : Stepped) (result : Result Kind Stop) (old new : Outside) : Type 0 where
   pub moments : GoesOn (IsStepMoment Is before stepped old.told) (moments_of old) (moments_of new)
   pub ok : OnOk result (LeavesFolder new.folder new.crash)
-  pub honest : IsHonest new
 
 -- By a moment of a change of one file, which a text tells, some front of the text was told. A crash there leaves the old folder or
 -- the changed one, and the latter once anything was told.
@@ -44,7 +42,6 @@ pub record IsChangeMoment (name bytes text : List ℕ) (old : Outside) (moment :
 pub record ChangesSafely (result : Result Kind Stop) (name bytes text : List ℕ) (old new : Outside) : Type 0 where
   pub moments : GoesOn (IsChangeMoment name bytes text old) (moments_of old) (moments_of new)
   pub ok : OnOk result (LeavesFolder (replaced old.folder name bytes) new.crash)
-  pub honest : IsHonest new
 
 -- how the change of one file went that a step made: it failed where the step tells a fault of the disk
 abbrev pub change_result : Result Kind Stop → Result (Unit {0}) Stop
@@ -60,7 +57,7 @@ LeavesCrash result old new = (new ≡ old) ⊎ ((name bytes : List ℕ) × Repla
 -- temporary file.
 abbrev pub ChangesOneFile : Outside → Outside → Type 0
 ChangesOneFile old new =
-    IsHonest old → LeavesFolder old.folder old.crash
+    IsHonest new → LeavesFolder old.folder old.crash
     → (name : List ℕ) × (bytes : List ℕ) × GoesOn (λ moment. LeavesEither name bytes old.folder moment.crash) (moments_of old) (moments_of new)
 
 -- All was settled in the middle: until then a crash leaves what one before might have left, and from then on just what reads.
@@ -70,10 +67,10 @@ pub record SettlesAll (old new : Outside) : Type 0 where
   pub before : OnlyReads false old middle
   pub since : AddsNoImage middle new
 
--- once the folder is read, all was settled; at a fault of the disk that, or nothing was
+-- Once the folder is read, all was settled. At a fault of the disk that, or the call that settles failed, and settled or not.
 abbrev pub StopsSettled : Stop → Outside → Outside → Type 0
-StopsSettled DiskFault old new = IsTrue old.tells_images → (new.crash ≡ old.crash) ⊎ SettlesAll old new
-StopsSettled _ old new = IsTrue old.tells_images → SettlesAll old new
+StopsSettled DiskFault old new = IsHonest new → IsChangedOrNot (settled old.folder) old.crash new.crash ⊎ SettlesAll old new
+StopsSettled _ old new = IsHonest new → SettlesAll old new
 
 abbrev pub LeavesSettled : {T : Type 0} → Result T Stop → Outside → Outside → Type 0
-LeavesSettled result old new = MatchResult result (λ _. IsTrue old.tells_images → SettlesAll old new) (λ stop. StopsSettled stop old new)
+LeavesSettled result old new = MatchResult result (λ _. IsHonest new → SettlesAll old new) (λ stop. StopsSettled stop old new)

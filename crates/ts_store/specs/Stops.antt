@@ -1,6 +1,5 @@
 -- Why a session stops.
-use Rattle.std.specs.Prelude.{◌≡◌, Bool, true, false, Option, None, Some, Result, Ok, Err}
-use Rattle.ts_site.specs.Outside.{Outside}
+use Rattle.std.specs.Prelude.{Bool, true, false, Option, None, Some, Result, Ok, Err}
 use Rattle.ts_store.specs.declared.stop.Stop.{Stop}
 use Rattle.ts_store.specs.declared.stop.Stop.TheVariants.{Damaged, DiskFault, OutputFault, Memory}
 use Rattle.ts_store.specs.declared.stop.Kind.{Kind}
@@ -18,6 +17,12 @@ is_disk_fault _ = false
 abbrev pub is_output_fault : Stop → Bool
 is_output_fault OutputFault = true
 is_output_fault _ = false
+
+-- a fault of the site, on which the last call failed
+abbrev pub is_site_fault : Stop → Bool
+is_site_fault DiskFault = true
+is_site_fault OutputFault = true
+is_site_fault _ = false
 
 -- the stops of opening
 abbrev pub IsOpeningStop : Stop → Type 0
@@ -37,9 +42,3 @@ IsStepStop _ = ⊥
 abbrev pub spent_after : Result Kind Stop → Option Stop
 spent_after (Ok kind) = None
 spent_after (Err stop) = Some stop
-
--- what was told of the folder, the output and the images is still told
-pub record KeepsTelling (old new : Outside) : Type 0 where
-  pub folder : new.tells_folder ≡ old.tells_folder
-  pub output : new.tells_output ≡ old.tells_output
-  pub images : new.tells_images ≡ old.tells_images

@@ -9,11 +9,11 @@ ghost use Rattle.ts_store.specs.Does.{Does};
 ghost use Rattle.ts_store.specs.Leaves.{LeavesTold};
 ghost use Rattle.ts_store.specs.Publishes.{LeavesReplaced};
 ghost use Rattle.ts_replace.specs.CrashSafe.{LeavesFolder, ReplacesCrash};
-ghost use Rattle.ts_site.specs.Outside.{IsHonest};
+ghost use Rattle.ts_site.specs.Outside.{Falls, IsHonest};
 ghost use Rattle.ts_store.specs.Safe.{ChangesSafely, change_result};
 ghost use Rattle.ts_store.specs.Puts as specs;
 ghost use Rattle.ts_store.specs.Step.{step_of};
-ghost use Rattle.ts_store.specs.Stops.{KeepsTelling, is_disk_fault, is_output_fault};
+ghost use Rattle.ts_store.specs.Stops.{is_disk_fault, is_output_fault, is_site_fault};
 
 use crate::answer::{refuse, reply};
 use crate::find::{find_label, find_target};
@@ -92,17 +92,17 @@ fn put_label<W: Site>(
     requires { contains_key labels.old.labels name.now ≡ false → 1 ≤ labels.old.spare }
     ensures labels { MatchResult result (λ kind. (kind ≡ Kind.Done) × (labels.new.labels ≡ insert labels.old.labels name.now label))
         (λ _. (labels.new.labels ≡ insert labels.old.labels name.now label) ⊎ (labels.new.labels ≡ labels.old.labels)) }
-    ensures told { IsTrue (W.outside site.old).tells_output
-        → LeavesTold result (specs.label_line name.now label) (W.outside site.old).told (W.outside site.new).told }
-    ensures folder { IsTrue (W.outside site.old).tells_folder
+    ensures told { LeavesTold result (specs.label_line name.now label) (W.outside site.old).told (W.outside site.new).told }
+    ensures folder { IsHonest (W.outside site.new)
         → LeavesReplaced result (label_file_name name.now) (label_text label) (W.outside site.old).folder (W.outside site.new).folder }
-    ensures safe { IsHonest (W.outside site.old) → LeavesFolder (W.outside site.old).folder (W.outside site.old).crash
+    ensures safe { IsHonest (W.outside site.new) → LeavesFolder (W.outside site.old).folder (W.outside site.old).crash
         → ChangesSafely result (label_file_name name.now) (label_text label) (specs.label_line name.now label) (W.outside site.old) (W.outside site.new) }
-    ensures crash { IsHonest (W.outside site.old) → ReplacesCrash (change_result result) (label_file_name name.now) (label_text label) (W.outside site.old).crash (W.outside site.new).crash }
+    ensures crash { IsHonest (W.outside site.new) → ReplacesCrash (change_result result) (label_file_name name.now) (label_text label) (W.outside site.old).crash (W.outside site.new).crash }
     ensures why { IfErr result (λ stop. (stop ≡ Stop.DiskFault) ⊎ (stop ≡ Stop.OutputFault)) }
     ensures disk { CountsFault (is_err_and is_disk_fault result) (W.outside site.old).disk_faults (W.outside site.new).disk_faults }
     ensures say { CountsFault (is_err_and is_output_fault result) (W.outside site.old).say_faults (W.outside site.new).say_faults }
-    ensures tells { KeepsTelling (W.outside site.old) (W.outside site.new) }
+    ensures last { IsTrue (is_err_and is_site_fault result) → IsTrue (W.outside site.new).failed_last }
+    ensures tells { Falls (W.outside site.old) (W.outside site.new) }
     ensures named { IsLabelName name.now }
 {
     let told = label_is(name.copy(), label);

@@ -100,8 +100,7 @@ fn lines<W: Site>(
     requires { piece.old.items ≡ [] }
     ensures small { OnOk result (length piece.new.items < 65536) }
     ensures count { IfOk result (λ count. count ≡ length (filter (fits pattern.now) (map (λ triple. triple.now) triples.now))) }
-    ensures told { IsTrue (W.outside site.old).tells_output
-        → SaysSoFar result (flat_map triple_line (filter (fits pattern.now) (map (λ triple. triple.now) triples.now))) (W.outside site.old).told (W.outside site.new).told piece.new.items }
+    ensures told { SaysSoFar result (flat_map triple_line (filter (fits pattern.now) (map (λ triple. triple.now) triples.now))) (W.outside site.old).told (W.outside site.new).told piece.new.items }
     ensures why { IfErr result IsQueryStop }
     ensures says { OnlySays (is_err_and is_output_fault result) (W.outside site.old) (W.outside site.new) }
 {
@@ -120,8 +119,7 @@ fn lines<W: Site>(
 /// One more line behind those of the piece, which is said once it is long enough.
 fn line<W: Site>(site: &mut W, triple: &Triple, piece: &mut Vec<u8>) -> Result<(), Stop>
     ensures small { OnOk result (length piece.new.items < 65536) }
-    ensures told { IsTrue (W.outside site.old).tells_output
-        → SaysSoFar result (piece.old.items ++ triple_line triple.now) (W.outside site.old).told (W.outside site.new).told piece.new.items }
+    ensures told { SaysSoFar result (piece.old.items ++ triple_line triple.now) (W.outside site.old).told (W.outside site.new).told piece.new.items }
     ensures why { IfErr result IsQueryStop }
     ensures says { OnlySays (is_err_and is_output_fault result) (W.outside site.old) (W.outside site.new) }
 {
@@ -135,8 +133,7 @@ fn line<W: Site>(site: &mut W, triple: &Triple, piece: &mut Vec<u8>) -> Result<(
 fn say_long<W: Site>(site: &mut W, piece: &mut Vec<u8>) -> Result<(), Stop>
     requires { AreLines piece.old.items }
     ensures small { OnOk result (length piece.new.items < 65536) }
-    ensures told { IsTrue (W.outside site.old).tells_output
-        → SaysSoFar result piece.old.items (W.outside site.old).told (W.outside site.new).told piece.new.items }
+    ensures told { SaysSoFar result piece.old.items (W.outside site.old).told (W.outside site.new).told piece.new.items }
     ensures why { IfErr result IsQueryStop }
     ensures says { OnlySays (is_err_and is_output_fault result) (W.outside site.old) (W.outside site.new) }
 {

@@ -30,8 +30,8 @@ use ts_site::{Disk, Site};
 /// Settles what reads, and reads every layer file and every label file of the folder.
 pub(crate) fn read_folder<W: Site>(alloc: Global, site: &mut W) -> Result<Store, Stop>
     ensures fresh { IfOk result IsFresh }
-    ensures says { IsTrue (W.outside site.old).tells_folder → IfOk result (FolderSays (W.outside site.old).folder) }
-    ensures damaged { IsTrue (W.outside site.old).tells_folder → IfErr result (λ stop. (name : List ℕ) → stop ≡ Stop.Damaged name → IsFirstDamaged (W.outside site.old).folder name) }
+    ensures says { IsHonest (W.outside site.new) → IfOk result (FolderSays (W.outside site.old).folder) }
+    ensures damaged { IsHonest (W.outside site.new) → IfErr result (λ stop. (name : List ℕ) → stop ≡ Stop.Damaged name → IsFirstDamaged (W.outside site.old).folder name) }
     ensures settles { LeavesSettled result (W.outside site.old) (W.outside site.new) }
     ensures why { IfErr result IsOpeningStop }
     ensures reads { OnlyReads (is_err_and is_disk_fault result) (W.outside site.old) (W.outside site.new) }
@@ -58,8 +58,8 @@ fn settle<W: Site>(site: &mut W) -> Result<(), Stop>
 fn read_settled<W: Site>(alloc: Global, site: &mut W) -> Result<Store, Stop>
     requires { IsHonest (W.outside site.old) → (W.outside site.old).crash ≡ settled (W.outside site.old).folder }
     ensures fresh { IfOk result IsFresh }
-    ensures says { IsTrue (W.outside site.old).tells_folder → IfOk result (FolderSays (W.outside site.old).folder) }
-    ensures damaged { IsTrue (W.outside site.old).tells_folder → IfErr result (λ stop. (name : List ℕ) → stop ≡ Stop.Damaged name → IsFirstDamaged (W.outside site.old).folder name) }
+    ensures says { IsHonest (W.outside site.new) → IfOk result (FolderSays (W.outside site.old).folder) }
+    ensures damaged { IsHonest (W.outside site.new) → IfErr result (λ stop. (name : List ℕ) → stop ≡ Stop.Damaged name → IsFirstDamaged (W.outside site.old).folder name) }
     ensures why { IfErr result IsOpeningStop }
     ensures reads { OnlyReads (is_err_and is_disk_fault result) (W.outside site.old) (W.outside site.new) }
 {
@@ -74,10 +74,10 @@ fn read_settled<W: Site>(alloc: Global, site: &mut W) -> Result<Store, Stop>
 fn read_found<W: Site>(alloc: Global, site: &mut W, found: &Folder) -> Result<Store, Stop>
     requires rise { Rise found.now.layers.items found.now.rollups.items found.now.labels.items }
     requires numbers { All IsLayerNumber found.now.layers.items }
-    requires those { IsTrue (W.outside site.old).tells_folder → AreThoseOf (W.outside site.old).folder found.now.layers.items found.now.rollups.items found.now.labels.items }
+    requires those { IsHonest (W.outside site.old) → AreThoseOf (W.outside site.old).folder found.now.layers.items found.now.rollups.items found.now.labels.items }
     ensures fresh { IfOk result IsFresh }
-    ensures says { IsTrue (W.outside site.old).tells_folder → IfOk result (FolderSays (W.outside site.old).folder) }
-    ensures damaged { IsTrue (W.outside site.old).tells_folder → IfErr result (λ stop. (name : List ℕ) → stop ≡ Stop.Damaged name → IsFirstDamaged (W.outside site.old).folder name) }
+    ensures says { IsHonest (W.outside site.new) → IfOk result (FolderSays (W.outside site.old).folder) }
+    ensures damaged { IsHonest (W.outside site.new) → IfErr result (λ stop. (name : List ℕ) → stop ≡ Stop.Damaged name → IsFirstDamaged (W.outside site.old).folder name) }
     ensures why { IfErr result IsOpeningStop }
     ensures reads { OnlyReads (is_err_and is_disk_fault result) (W.outside site.old) (W.outside site.new) }
 {
@@ -110,10 +110,10 @@ fn with_labels<W: Site>(
 ) -> Result<Store, Stop>
     requires history { AreHistory layers.items }
     requires rise { IsStrictlySortedBy (slice_cmp nat_cmp) names.now }
-    requires told { IsTrue (W.outside site.old).tells_folder → AreLayersRead (W.outside site.old).folder (history_of layers.items) names.now }
+    requires told { IsHonest (W.outside site.old) → AreLayersRead (W.outside site.old).folder (history_of layers.items) names.now }
     ensures fresh { IfOk result IsFresh }
-    ensures says { IsTrue (W.outside site.old).tells_folder → IfOk result (FolderSays (W.outside site.old).folder) }
-    ensures damaged { IsTrue (W.outside site.old).tells_folder → IfErr result (λ stop. (name : List ℕ) → stop ≡ Stop.Damaged name → IsFirstDamaged (W.outside site.old).folder name) }
+    ensures says { IsHonest (W.outside site.new) → IfOk result (FolderSays (W.outside site.old).folder) }
+    ensures damaged { IsHonest (W.outside site.new) → IfErr result (λ stop. (name : List ℕ) → stop ≡ Stop.Damaged name → IsFirstDamaged (W.outside site.old).folder name) }
     ensures why { IfErr result IsOpeningStop }
     ensures reads { OnlyReads (is_err_and is_disk_fault result) (W.outside site.old) (W.outside site.new) }
 {
@@ -136,11 +136,11 @@ fn read_layers<W: Site>(
 ) -> Result<Vec<PlainLayer>, Stop>
     requires rise { IsStrictlyIncreasing numbers.now }
     requires numbers { All IsLayerNumber numbers.now }
-    requires stand { IsTrue (W.outside site.old).tells_folder → All (λ n. IsTrue (contains_key (W.outside site.old).folder (layer_name n))) numbers.now }
+    requires stand { IsHonest (W.outside site.old) → All (λ n. IsTrue (contains_key (W.outside site.old).folder (layer_name n))) numbers.now }
     ensures numbers { IfOk result (λ layers. map (λ layer. layer.number) layers.items ≡ numbers.now) }
     ensures history { IfOk result (λ layers. AreHistory layers.items) }
-    ensures says { IsTrue (W.outside site.old).tells_folder → IfOk result (λ layers. All (IsReadFrom (W.outside site.old).folder) layers.items) }
-    ensures damaged { IsTrue (W.outside site.old).tells_folder → IfErr result (λ stop. (name : List ℕ) → stop ≡ Stop.Damaged name → IsFirstOf (W.outside site.old).folder numbers.now name) }
+    ensures says { IsHonest (W.outside site.new) → IfOk result (λ layers. All (IsReadFrom (W.outside site.old).folder) layers.items) }
+    ensures damaged { IsHonest (W.outside site.new) → IfErr result (λ stop. (name : List ℕ) → stop ≡ Stop.Damaged name → IsFirstOf (W.outside site.old).folder numbers.now name) }
     ensures why { IfErr result IsOpeningStop }
     ensures reads { OnlyReads (is_err_and is_disk_fault result) (W.outside site.old) (W.outside site.new) }
 {
@@ -164,10 +164,10 @@ fn read_layers<W: Site>(
 
 /// Reads the layer of a number.
 fn read_layer<W: Site>(alloc: Global, site: &mut W, number: u32) -> Result<PlainLayer, Stop>
-    requires stands { IsTrue (W.outside site.old).tells_folder → IsTrue (contains_key (W.outside site.old).folder (layer_name number)) }
+    requires stands { IsHonest (W.outside site.old) → IsTrue (contains_key (W.outside site.old).folder (layer_name number)) }
     ensures layer { IfOk result (λ layer. (layer.number ≡ number) × IsPlainLayer layer.number layer.parent layer.additions.items layer.removals.items) }
-    ensures says { IsTrue (W.outside site.old).tells_folder → IfOk result (IsReadFrom (W.outside site.old).folder) }
-    ensures damaged { IsTrue (W.outside site.old).tells_folder → IfErr result (λ stop. (name : List ℕ) → stop ≡ Stop.Damaged name → IsUnreadable (W.outside site.old).folder number × (name ≡ layer_name number)) }
+    ensures says { IsHonest (W.outside site.new) → IfOk result (IsReadFrom (W.outside site.old).folder) }
+    ensures damaged { IsHonest (W.outside site.new) → IfErr result (λ stop. (name : List ℕ) → stop ≡ Stop.Damaged name → IsUnreadable (W.outside site.old).folder number × (name ≡ layer_name number)) }
     ensures why { IfErr result IsOpeningStop }
     ensures reads { OnlyReads (is_err_and is_disk_fault result) (W.outside site.old) (W.outside site.new) }
 {

@@ -9,7 +9,7 @@ ghost use Rattle.ts_labels.specs.declared.label.Label.{Label};
 ghost use Rattle.ts_plain.specs.History.{AreHistory, history_of};
 ghost use Rattle.ts_replace.specs.Names.{label_file_name};
 ghost use Rattle.ts_site.specs.Faults.{is_err_and};
-ghost use Rattle.ts_site.specs.Outside.{OnlyReads};
+ghost use Rattle.ts_site.specs.Outside.{IsHonest, OnlyReads};
 ghost use Rattle.ts_store.specs.FolderSays.{FolderSays, IsFirstDamaged};
 ghost use Rattle.ts_store.specs.Named.{AreLabelsOf, IsLabelOf};
 ghost use Rattle.ts_store.specs.Opened.{AreLayersRead, IsUnreadableLabel};
@@ -34,10 +34,10 @@ pub(crate) fn read_labels<W: Site>(
 ) -> Result<LabelTable, Stop>
     requires history { AreHistory layers.now }
     requires rise { IsStrictlySortedBy (slice_cmp nat_cmp) names.now }
-    requires told { IsTrue (W.outside site.old).tells_folder → AreLayersRead (W.outside site.old).folder (history_of layers.now) names.now }
+    requires told { IsHonest (W.outside site.old) → AreLayersRead (W.outside site.old).folder (history_of layers.now) names.now }
     ensures named { IfOk result (λ table. AreLabelsOf (history_of layers.now) table.labels) }
-    ensures says { IsTrue (W.outside site.old).tells_folder → IfOk result (λ table. FolderSays (W.outside site.old).folder (state_of layers.now table.labels empty None)) }
-    ensures damaged { IsTrue (W.outside site.old).tells_folder → IfErr result (λ stop. (name : List ℕ) → stop ≡ Stop.Damaged name → IsFirstDamaged (W.outside site.old).folder name) }
+    ensures says { IsHonest (W.outside site.new) → IfOk result (λ table. FolderSays (W.outside site.old).folder (state_of layers.now table.labels empty None)) }
+    ensures damaged { IsHonest (W.outside site.new) → IfErr result (λ stop. (name : List ℕ) → stop ≡ Stop.Damaged name → IsFirstDamaged (W.outside site.old).folder name) }
     ensures why { IfErr result IsOpeningStop }
     ensures reads { OnlyReads (is_err_and is_disk_fault result) (W.outside site.old) (W.outside site.new) }
 {
@@ -62,10 +62,10 @@ fn read_label<W: Site>(
     name: &LabelName,
 ) -> Result<Label, Stop>
     requires history { AreHistory layers.now }
-    requires stands { IsTrue (W.outside site.old).tells_folder → IsTrue (contains_key (W.outside site.old).folder (label_file_name name.now)) }
+    requires stands { IsHonest (W.outside site.old) → IsTrue (contains_key (W.outside site.old).folder (label_file_name name.now)) }
     ensures label { IfOk result (IsLabelOf (history_of layers.now) name.now) }
-    ensures says { IsTrue (W.outside site.old).tells_folder → IfOk result (λ label. get (W.outside site.old).folder (label_file_name name.now) ≡ Some (label_text label)) }
-    ensures damaged { IsTrue (W.outside site.old).tells_folder → IfErr result (λ stop. (other : List ℕ) → stop ≡ Stop.Damaged other
+    ensures says { IsHonest (W.outside site.new) → IfOk result (λ label. get (W.outside site.old).folder (label_file_name name.now) ≡ Some (label_text label)) }
+    ensures damaged { IsHonest (W.outside site.new) → IfErr result (λ stop. (other : List ℕ) → stop ≡ Stop.Damaged other
         → IsUnreadableLabel (W.outside site.old).folder (history_of layers.now) name.now × (other ≡ label_file_name name.now)) }
     ensures why { IfErr result IsOpeningStop }
     ensures reads { OnlyReads (is_err_and is_disk_fault result) (W.outside site.old) (W.outside site.new) }

@@ -12,10 +12,10 @@ ghost use Rattle.ts_store.specs.Does.{Does};
 ghost use Rattle.ts_store.specs.Leaves.{LeavesTold};
 ghost use Rattle.ts_store.specs.Publishes.{AddsLayerTo, KeepsLayers, LeavesReplaced};
 ghost use Rattle.ts_replace.specs.CrashSafe.{LeavesFolder, ReplacesCrash};
-ghost use Rattle.ts_site.specs.Outside.{IsHonest};
+ghost use Rattle.ts_site.specs.Outside.{Falls, IsHonest};
 ghost use Rattle.ts_store.specs.Safe.{ChangesSafely, change_result};
 ghost use Rattle.ts_store.specs.Makes.{is_counted_at, makes, with_layer};
-ghost use Rattle.ts_store.specs.Stops.{KeepsTelling, is_disk_fault, is_output_fault};
+ghost use Rattle.ts_store.specs.Stops.{is_disk_fault, is_output_fault, is_site_fault};
 ghost use Rattle.ts_store.specs.Store.{IsNextLayer, IsSound, state_of};
 
 use crate::answer::{refuse, reply};
@@ -100,17 +100,17 @@ fn publish<W: Site>(
     requires { vec_len layers.old < vec_capacity layers.old }
     ensures layers { MatchResult result (λ kind. (kind ≡ Kind.Done) × AddsLayerTo layer layers.old.items layers.new.items last.new)
         (λ _. AddsLayerTo layer layers.old.items layers.new.items last.new ⊎ KeepsLayers layers.old.items last.old layers.new.items last.new) }
-    ensures told { IsTrue (W.outside site.old).tells_output
-        → LeavesTold result (reply_text (Reply.Layer layer.number)) (W.outside site.old).told (W.outside site.new).told }
-    ensures folder { IsTrue (W.outside site.old).tells_folder
+    ensures told { LeavesTold result (reply_text (Reply.Layer layer.number)) (W.outside site.old).told (W.outside site.new).told }
+    ensures folder { IsHonest (W.outside site.new)
         → LeavesReplaced result (layer_name layer.number) file.now (W.outside site.old).folder (W.outside site.new).folder }
-    ensures safe { IsHonest (W.outside site.old) → LeavesFolder (W.outside site.old).folder (W.outside site.old).crash
+    ensures safe { IsHonest (W.outside site.new) → LeavesFolder (W.outside site.old).folder (W.outside site.old).crash
         → ChangesSafely result (layer_name layer.number) file.now (reply_text (Reply.Layer layer.number)) (W.outside site.old) (W.outside site.new) }
-    ensures crash { IsHonest (W.outside site.old) → ReplacesCrash (change_result result) (layer_name layer.number) file.now (W.outside site.old).crash (W.outside site.new).crash }
+    ensures crash { IsHonest (W.outside site.new) → ReplacesCrash (change_result result) (layer_name layer.number) file.now (W.outside site.old).crash (W.outside site.new).crash }
     ensures why { IfErr result (λ stop. (stop ≡ Stop.DiskFault) ⊎ (stop ≡ Stop.OutputFault)) }
     ensures disk { CountsFault (is_err_and is_disk_fault result) (W.outside site.old).disk_faults (W.outside site.new).disk_faults }
     ensures say { CountsFault (is_err_and is_output_fault result) (W.outside site.old).say_faults (W.outside site.new).say_faults }
-    ensures tells { KeepsTelling (W.outside site.old) (W.outside site.new) }
+    ensures last { IsTrue (is_err_and is_site_fault result) → IsTrue (W.outside site.new).failed_last }
+    ensures tells { Falls (W.outside site.old) (W.outside site.new) }
 {
     let number = layer.number;
     if replace(site, &layer_file(number), file).is_err() {

@@ -1,7 +1,7 @@
 // An open folder.
 ghost use Rattle.std.specs.Prelude.{◌≡◌, ℕ, List, None, Some, Err, IsTrue, IfOk, IfErr, option_map, false};
 ghost use Rattle.ts_site.specs.Faults.{CountsFault, is_err_and};
-ghost use Rattle.ts_site.specs.Outside.{IsHonest, OnlyReads, OnlySays};
+ghost use Rattle.ts_site.specs.Outside.{Falls, IsHonest, OnlyReads, OnlySays};
 
 use crate::dispatch::dispatch;
 use crate::open::read_folder;
@@ -29,16 +29,16 @@ impl Session {
     ghost use Rattle.ts_store.specs.Safe.{ChangesOneFile, IsSafe, IsSettledAt, LeavesCrash, LeavesSettled};
     ghost use Rattle.ts_store.specs.Stands.{Stands};
     ghost use Rattle.ts_store.specs.State.{IsFresh, State};
-    ghost use Rattle.ts_store.specs.Stops.{IsOpeningStop, IsStepStop, KeepsTelling, is_disk_fault, is_output_fault, kind_of, spent_after};
+    ghost use Rattle.ts_store.specs.Stops.{IsOpeningStop, IsStepStop, is_disk_fault, is_output_fault, is_site_fault, kind_of, spent_after};
     ghost use Rattle.ts_store.specs.Step.{step_of};
     ghost use Rattle.ts_store.specs.declared.stop.Stop.TheVariants.{Damaged, Memory};
 
     /// Opens a folder: settles what reads, and reads every layer file and then every label file. `Damaged` exactly where a file is the first that isn't
     /// what its name says; else `DiskFault` or `Memory`.
     pub fn open<W: Site>(alloc: Global, site: &mut W) -> Result<Session, Stop>
-        ensures says { IsTrue (W.outside site.old).tells_folder
+        ensures says { IsHonest (W.outside site.new)
             → IfOk result (λ session. (state : State) × Keeps session state × IsFresh state × FolderSays (W.outside site.old).folder state) }
-        ensures damaged { IsTrue (W.outside site.old).tells_folder
+        ensures damaged { IsHonest (W.outside site.new)
             → IfErr result (λ stop. (name : List ℕ) → stop ≡ Damaged name → IsFirstDamaged (W.outside site.old).folder name) }
         ensures fresh { IfOk result (λ session. (state : State) × Keeps session state × IsFresh state) }
 
@@ -64,24 +64,25 @@ impl Session {
         // said and the folder follow them.
         ensures state { (state : State) → Keeps self.old state
             → IfOk result (λ kind. Keeps self.new (step_of state command.now).state × (kind ≡ kind_of (step_of state command.now).refused)) }
-        ensures told { (state : State) → Keeps self.old state → IsTrue (W.outside site.old).tells_output
+        ensures told { (state : State) → Keeps self.old state
             → LeavesTold result (step_of state command.now).told (W.outside site.old).told (W.outside site.new).told }
-        ensures folder { (state : State) → Keeps self.old state → IsTrue (W.outside site.old).tells_folder
+        ensures folder { (state : State) → Keeps self.old state → IsHonest (W.outside site.new)
             → LeavesFolder result state (step_of state command.now).state (W.outside site.old).folder (W.outside site.new).folder }
 
         // A folder that tells the state, or stands for it, does so of the next one, or after a stop of one of the two.
-        ensures says { (state : State) → Keeps self.old state → IsTrue (W.outside site.old).tells_folder → FolderSays (W.outside site.old).folder state
+        ensures says { (state : State) → Keeps self.old state → IsHonest (W.outside site.new) → FolderSays (W.outside site.old).folder state
             → LeavesState (FolderSays (W.outside site.new).folder) result state (step_of state command.now).state }
-        ensures stands { (state : State) → Keeps self.old state → IsTrue (W.outside site.old).tells_folder → Stands (W.outside site.old).folder state
+        ensures stands { (state : State) → Keeps self.old state → IsHonest (W.outside site.new) → Stands (W.outside site.old).folder state
             → LeavesState (Stands (W.outside site.new).folder) result state (step_of state command.now).state }
 
         // Where a crash leaves a folder that stands for the state, it leaves at each moment of the step one that stands for this state or
         // the next one, and for the next one once the whole reply was told.
-        ensures safe { (state : State) → Keeps self.old state → IsSettledAt Stands state (W.outside site.old)
+        ensures safe { (state : State) → Keeps self.old state → IsHonest (W.outside site.new) → IsSettledAt Stands state (W.outside site.old)
             → IsSafe Stands state (step_of state command.now) result (W.outside site.old) (W.outside site.new) }
 
-        // It changes one file at most, and after a fault nothing is done any more.
-        ensures crash { spent_by self.old ≡ None → IsHonest (W.outside site.old) → LeavesCrash result (W.outside site.old).crash (W.outside site.new).crash }
+        // It changes one file at most, and after a fault no call is made any more.
+        ensures last { spent_by self.old ≡ None → IsTrue (is_err_and is_site_fault result) → IsTrue (W.outside site.new).failed_last }
+        ensures crash { spent_by self.old ≡ None → IsHonest (W.outside site.new) → LeavesCrash result (W.outside site.old).crash (W.outside site.new).crash }
         ensures one_file { spent_by self.old ≡ None → ChangesOneFile (W.outside site.old) (W.outside site.new) }
         ensures why { spent_by self.old ≡ None → IfErr result IsStepStop }
 
@@ -98,7 +99,7 @@ impl Session {
         ensures spent { (stop : Stop) → spent_by self.old ≡ Some stop → (result ≡ Err stop) × (site.new ≡ site.old) × (spent_by self.new ≡ Some stop) }
         ensures disk { spent_by self.old ≡ None → CountsFault (is_err_and is_disk_fault result) (W.outside site.old).disk_faults (W.outside site.new).disk_faults }
         ensures say { spent_by self.old ≡ None → CountsFault (is_err_and is_output_fault result) (W.outside site.old).say_faults (W.outside site.new).say_faults }
-        ensures tells { KeepsTelling (W.outside site.old) (W.outside site.new) }
+        ensures tells { Falls (W.outside site.old) (W.outside site.new) }
     {
         if let Some(stop) = &self.spent {
             return Err(stop.copy());

@@ -29,7 +29,7 @@ returns-in-Ok-reserve-clause-does g c =
     let done = c.put_label.ensures in
     does_made inside.layers.items inside.labels.labels inside.cursors inside.last c.args.store.now c.store.view_is c.store.invariant name done.named c.in-Ok.label (sym c.made.ensures ∙ c.in-Ok.is) after result
     (subst (λ (ls : Labels). PutOrNot result name c.in-Ok.label ls after) c.reserve.ensures.labels done.labels)
-    (g.W.Disk.outside c.args.site.now) (g.W.Disk.outside c.put_label.new.site) done.told done.folder done.why done.disk done.say done.tells done.crash done.safe
+    (g.W.Disk.outside c.args.site.now) (g.W.Disk.outside c.put_label.new.site) done.told done.folder done.why done.disk done.say done.last done.tells done.crash done.safe
 
 pub returns-in-Err-clause-does : goal.returns-in-Err-clause-does
 returns-in-Err-clause-does g c =

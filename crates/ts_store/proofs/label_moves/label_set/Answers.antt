@@ -36,7 +36,7 @@ returns-in-Ok-moved-clause-does g c =
     does_move inside.layers.items inside.labels.labels inside.cursors inside.last c.args.store.now c.store.view_is c.store.invariant c.args.name.now c.args.version c.args.to
     c.in-Ok.field-0 c.in-Ok-find_target.layer (sym c.find_label.ensures.found ∙ c.in-Ok.is) (sym c.find_target.ensures.found ∙ c.in-Ok-find_target.is)
     c.in-Ok.ensures.is_label c.in-Ok-find_target.ensures.stands c.in-Ok-moved.label (sym c.moved.ensures ∙ c.in-Ok-moved.is) c.put_label.new.labels.labels c.put_label.result done.labels
-    (g.W.Disk.outside c.args.site.now) (g.W.Disk.outside c.put_label.new.site) done.told done.folder done.why done.disk done.say done.tells done.crash done.safe
+    (g.W.Disk.outside c.args.site.now) (g.W.Disk.outside c.put_label.new.site) done.told done.folder done.why done.disk done.say done.last done.tells done.crash done.safe
 
 pub returns-in-Err-clause-does : goal.returns-in-Err-clause-does
 returns-in-Err-clause-does g c =

@@ -1,4 +1,4 @@
-use Rattle.std.proofs.Common.{◌≡◌, ◌++◌, Bool, [], IsTrue, Err, codes, decimal, filter, flat_map, false, length, List, ℕ, take, ◌<◌, refl, sym, ap, subst, arith}
+use Rattle.std.proofs.Common.{◌≡◌, ◌++◌, [], Err, codes, decimal, filter, flat_map, false, length, List, ℕ, take, ◌<◌, refl, sym, ap, subst, arith}
 use Rattle.std.specs.FinMap.{entries, len}
 use Rattle.std.proofs.lemmas.List.{take_all}
 use Rattle.ts_labels.specs.declared.label.Label.{Label}
@@ -25,8 +25,8 @@ loop-i-preserved g c =
     let between = g.W.Disk.outside c.loop-i.site in
     let new = g.W.Disk.outside c.reply.new.site in
     record {
-      told = λ told. line_said every line_of (entries labels) i entry below (entry_is (entries labels) i entry below c.at-name.ensures) refl old.told between.told new.told (before.told told)
-          (is_line entry) (subst (λ (text : List ℕ). new.told ≡ between.told ++ text) (ap reply_text c.label_is.ensures) (now.told (subst (λ (b : Bool). IsTrue b) (sym before.says.telling) told)));
+      told = line_said every line_of (entries labels) i entry below (entry_is (entries labels) i entry below c.at-name.ensures) refl old.told between.told new.told before.told
+          (is_line entry) (subst (λ (text : List ℕ). new.told ≡ between.told ++ text) (ap reply_text c.label_is.ensures) now.told);
       says = says_more false old between new before.says now.says;
     }
 
@@ -43,9 +43,9 @@ returns-in-Err-clause-answers g c =
     let new = g.W.Disk.outside c.reply.new.site in
     subst (λ (text : List ℕ). Answers text false (Err c.in-Err.stop) old new) (sym (labels_said labels)) (record {
       kind = tt;
-      told = λ told. line_failed every line_of (entries labels) i entry below (entry_is (entries labels) i entry below c.at-name.ensures) refl old.told between.told new.told (before.told told)
+      told = line_failed every line_of (entries labels) i entry below (entry_is (entries labels) i entry below c.at-name.ensures) refl old.told between.told new.told before.told
           c.in-Err.stop (reply_text (Total (len labels))) c.in-Err.ensures.why (line_is_longer (codes "total " ++ decimal (len labels)))
-          (subst (λ (text : List ℕ). LeavesTold (Err c.in-Err.stop) text between.told new.told) (ap reply_text c.label_is.ensures) (now.told (subst (λ (b : Bool). IsTrue b) (sym before.says.telling) told)));
+          (subst (λ (text : List ℕ). LeavesTold (Err c.in-Err.stop) text between.told new.told) (ap reply_text c.label_is.ensures) now.told);
       says = says_more _ old between new before.says now.says;
     })
 
@@ -60,9 +60,8 @@ returns-clause-answers g c =
     let whole : take c.loop-i.i (entries labels) ≡ entries labels = take_all c.loop-i.i (entries labels) (omega (arith, c.loop-i-test.false, c.len-i-end.ensures, entries_len labels)) in
     subst (λ (text : List ℕ). Answers text false c.reply-2.result old new) (sym (labels_said labels)) (record {
       kind = said.kind;
-      told = λ told.
-          list_done c.reply-2.result (flat_map line_of (filter every (entries labels))) (reply_text (Total (len labels))) old.told between.told new.told [] (output_alone c.reply-2.result c.reply-2.ensures.why)
-          (subst (λ (es : List (List ℕ × Label)). SaysPrefix AreLines (flat_map line_of (filter every es)) old.told between.told []) whole (before.told told))
-          (subst (λ (n : ℕ). LeavesTold c.reply-2.result (reply_text (Total n)) between.told new.told) c.len.ensures (said.told (subst (λ (b : Bool). IsTrue b) (sym before.says.telling) told)));
+      told = list_done c.reply-2.result (flat_map line_of (filter every (entries labels))) (reply_text (Total (len labels))) old.told between.told new.told [] (output_alone c.reply-2.result c.reply-2.ensures.why)
+          (subst (λ (es : List (List ℕ × Label)). SaysPrefix AreLines (flat_map line_of (filter every es)) old.told between.told []) whole before.told)
+          (subst (λ (n : ℕ). LeavesTold c.reply-2.result (reply_text (Total n)) between.told new.told) c.len.ensures said.told);
       says = says_more _ old between new before.says said.says;
     })

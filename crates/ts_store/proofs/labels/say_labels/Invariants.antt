@@ -1,4 +1,4 @@
-use Rattle.std.proofs.Common.{[], false, filter, flat_map, take, IsTrue}
+use Rattle.std.proofs.Common.{[], false, filter, flat_map, take}
 use Rattle.std.specs.FinMap.{entries}
 use Rattle.ts_site.specs.Outside.{OnlySays}
 use Rattle.ts_store.specs.Leaves.{AreLines}
@@ -10,7 +10,6 @@ abbrev pub invariant-loop-i : goal.invariant-loop-i
 invariant-loop-i g l =
     let outside = g.W.Disk.outside in
     record {
-      told : IsTrue (outside l.initial.site).tells_output
-          → SaysPrefix AreLines (flat_map line_of (filter every (take l.i (entries l.labels.labels)))) (outside l.initial.site).told (outside l.site).told [];
+      told : SaysPrefix AreLines (flat_map line_of (filter every (take l.i (entries l.labels.labels)))) (outside l.initial.site).told (outside l.site).told [];
       says : OnlySays false (outside l.initial.site) (outside l.site);
     }

@@ -1,4 +1,4 @@
-use Rattle.std.proofs.Common.{◌++◌, Bool, [], IsTrue, Err, codes, decimal, filter, flat_map, false, length, List, ℕ, ◌≡◌, take, refl, sym, subst}
+use Rattle.std.proofs.Common.{◌++◌, [], Err, codes, decimal, filter, flat_map, false, length, List, ℕ, ◌≡◌, take, refl, sym, subst}
 use Rattle.std.proofs.lemmas.List.{take_all}
 use Rattle.ts_script.specs.Replies.{reply_text}
 use Rattle.ts_script.specs.declared.reply.Reply.TheVariants.{Total}
@@ -20,8 +20,8 @@ loop-layer-preserved g c =
     let between = g.W.Disk.outside c.loop-layer.site in
     let new = g.W.Disk.outside c.reply.new.site in
     record {
-      told = λ told. line_said every layer_line c.args.layers.now c.loop-layer.layer-index c.layer-item.result c.loop-layer-test.true c.layer-item.is refl old.told between.told new.told (before.told told)
-          (is_line c.layer-item.result) (now.told (subst (λ (b : Bool). IsTrue b) (sym before.says.telling) told));
+      told = line_said every layer_line c.args.layers.now c.loop-layer.layer-index c.layer-item.result c.loop-layer-test.true c.layer-item.is refl old.told between.told new.told before.told
+          (is_line c.layer-item.result) now.told;
       says = says_more false old between new before.says now.says;
     }
 
@@ -35,8 +35,8 @@ returns-in-Err-clause-answers g c =
     let new = g.W.Disk.outside c.reply.new.site in
     subst (λ (text : List ℕ). Answers text false (Err c.in-Err.stop) old new) (sym (layers_said layers c.requires)) (record {
       kind = tt;
-      told = λ told. line_failed every layer_line layers c.loop-layer.layer-index c.layer-item.result c.loop-layer-test.true c.layer-item.is refl old.told between.told new.told (before.told told)
-          c.in-Err.stop (reply_text (Total (length layers))) c.in-Err.ensures.why (line_is_longer (codes "total " ++ decimal (length layers))) (now.told (subst (λ (b : Bool). IsTrue b) (sym before.says.telling) told));
+      told = line_failed every layer_line layers c.loop-layer.layer-index c.layer-item.result c.loop-layer-test.true c.layer-item.is refl old.told between.told new.told before.told
+          c.in-Err.stop (reply_text (Total (length layers))) c.in-Err.ensures.why (line_is_longer (codes "total " ++ decimal (length layers))) now.told;
       says = says_more _ old between new before.says now.says;
     })
 
@@ -51,8 +51,7 @@ returns-clause-answers g c =
     let whole : take c.loop-layer.layer-index layers ≡ layers = take_all c.loop-layer.layer-index layers c.loop-layer-test.false in
     subst (λ (text : List ℕ). Answers text false c.reply-2.result old new) (sym (layers_said layers c.requires)) (record {
       kind = said.kind;
-      told = λ told.
-          list_done c.reply-2.result (flat_map layer_line (filter every layers)) (reply_text (Total (length layers))) old.told between.told new.told [] (output_alone c.reply-2.result c.reply-2.ensures.why)
-          (subst (λ (ls : List PlainLayer). SaysPrefix AreLines (flat_map layer_line (filter every ls)) old.told between.told []) whole (before.told told)) (said.told (subst (λ (b : Bool). IsTrue b) (sym before.says.telling) told));
+      told = list_done c.reply-2.result (flat_map layer_line (filter every layers)) (reply_text (Total (length layers))) old.told between.told new.told [] (output_alone c.reply-2.result c.reply-2.ensures.why)
+          (subst (λ (ls : List PlainLayer). SaysPrefix AreLines (flat_map layer_line (filter every ls)) old.told between.told []) whole before.told) said.told;
       says = says_more _ old between new before.says said.says;
     })

@@ -7,7 +7,7 @@ use Rattle.ts_store.specs.Leaves.{AreLines}
 pub returns-in-Err-clause-told : goal.returns-in-Err-clause-told
 returns-in-Err-clause-told g c =
     let text = c.args.piece.now.items ++ triple_line c.args.triple.now in
-    λ told. (text, prefix_none text (g.W.Disk.outside c.args.site.now).told)
+    (text, prefix_none text (g.W.Disk.outside c.args.site.now).told)
 
 pub say_long-requires : goal.say_long-requires
 say_long-requires g c = subst AreLines (sym c.in-Ok.ensures.ok) (triple_lines c.args.piece.now.items c.args.triple.now)

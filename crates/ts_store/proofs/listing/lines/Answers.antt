@@ -1,4 +1,4 @@
-use Rattle.std.proofs.Common.{◌+◌, ◌∙◌, Bool, false, IsTrue, ap, sym, subst, arith, ℕ}
+use Rattle.std.proofs.Common.{◌+◌, ◌∙◌, false, ap, sym, arith, ℕ}
 use Rattle.ts_model.specs.Fits.{fits}
 use Rattle.ts_nt.specs.TripleLine.{triple_line}
 use Rattle.ts_site.proofs.GoesLemmas.{says_more}
@@ -12,15 +12,14 @@ overflow_add-count g c =
     omega (arith, count_below (fits c.args.pattern.now) triple_line (triples_lent c.args.triples.now) c.loop-triple.triple-index (lent_below c.args.triples.now c.loop-triple.triple-index c.loop-triple-test.true))
 
 pub returns-in-Err-clause-told : goal.returns-in-Err-clause-told
-returns-in-Err-clause-told g c = λ told.
+returns-in-Err-clause-told g c =
     let before = c.loop-triple.invariant in
     let xs = triples_lent c.args.triples.now in
     let i = c.loop-triple.triple-index in
     let below = c.loop-triple-test.true in
-    let told_then = subst (λ (b : Bool). IsTrue b) (sym before.says.telling) told in
-    let said = c.in-Err.ensures.told told_then in
+    let said = c.in-Err.ensures.told in
     lines_ended (fits c.args.pattern.now) triple_line xs i c.triple-item.result.now (lent_below c.args.triples.now i below) (lent_is c.args.triples.now i c.triple-item.result below c.triple-item.is) (sym c.fits.ensures ∙ c.if-fits.true)
-    (g.W.Disk.outside c.args.site.now).told (g.W.Disk.outside c.loop-triple.site).told (g.W.Disk.outside c.line.new.site).told c.loop-triple.piece.items said.0 (before.told told) c.in-Err.stop said.1
+    (g.W.Disk.outside c.args.site.now).told (g.W.Disk.outside c.loop-triple.site).told (g.W.Disk.outside c.line.new.site).told c.loop-triple.piece.items said.0 before.told c.in-Err.stop said.1
 
 pub loop-triple-preserved : goal.loop-triple-preserved
 loop-triple-preserved g c =
@@ -37,8 +36,8 @@ loop-triple-preserved g c =
           let now = w.in-Ok.ensures in
           rw (w.site-is, w.piece-is, w.count-is) (record {
             count = ap (λ (n : ℕ). n + 1) before.count ∙ sym (count_more p triple_line xs i x below is e);
-            told = λ told. lines_more p triple_line xs i x below is e (g.W.Disk.outside c.args.site.now).told (g.W.Disk.outside c.loop-triple.site).told (g.W.Disk.outside w.line.new.site).told c.loop-triple.piece.items w.line.new.piece.items
-                (before.told told) (now.told (subst (λ (b : Bool). IsTrue b) (sym before.says.telling) told));
+            told = lines_more p triple_line xs i x below is e (g.W.Disk.outside c.args.site.now).told (g.W.Disk.outside c.loop-triple.site).told (g.W.Disk.outside w.line.new.site).told c.loop-triple.piece.items w.line.new.piece.items
+                before.told now.told;
             small = now.small;
             says = says_more false (g.W.Disk.outside c.args.site.now) (g.W.Disk.outside c.loop-triple.site) (g.W.Disk.outside w.line.new.site) before.says now.says;
           })

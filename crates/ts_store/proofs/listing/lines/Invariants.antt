@@ -1,4 +1,4 @@
-use Rattle.std.proofs.Common.{◌≡◌, ◌<◌, false, filter, flat_map, length, take, IsTrue}
+use Rattle.std.proofs.Common.{◌≡◌, ◌<◌, false, filter, flat_map, length, take}
 use Rattle.ts_model.specs.Fits.{fits}
 use Rattle.ts_nt.specs.TripleLine.{triple_line}
 use Rattle.ts_site.specs.Outside.{OnlySays}
@@ -13,7 +13,7 @@ invariant-loop-triple g l =
     let so_far = filter (fits l.pattern) (take l.triple-index (triples_lent l.triples)) in
     record {
       count : l.count ≡ length so_far;
-      told : IsTrue (outside l.initial.site).tells_output → SaysPrefix AreLines (flat_map triple_line so_far) (outside l.initial.site).told (outside l.site).told l.piece.items;
+      told : SaysPrefix AreLines (flat_map triple_line so_far) (outside l.initial.site).told (outside l.site).told l.piece.items;
       small : length l.piece.items < 65536;
       says : OnlySays false (outside l.initial.site) (outside l.site);
     }

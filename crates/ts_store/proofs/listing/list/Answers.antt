@@ -1,4 +1,4 @@
-use Rattle.std.proofs.Common.{◌++◌, Bool, IsTrue, codes, decimal, filter, flat_map, length, subst, sym}
+use Rattle.std.proofs.Common.{◌++◌, codes, decimal, filter, flat_map, length}
 use Rattle.ts_model.specs.Fits.{fits}
 use Rattle.ts_nt.specs.TripleLine.{triple_line}
 use Rattle.ts_script.specs.Replies.{reply_text}
@@ -12,7 +12,7 @@ returns-in-Err-clause-answers g c =
     let these = filter (fits c.args.pattern.now) (triples_lent c.args.triples.now) in
     record {
       kind = tt;
-      told = λ told. list_ended c.in-Err.stop (flat_map triple_line these) (reply_text (Total (length these))) (g.W.Disk.outside c.args.site.now).told (g.W.Disk.outside c.lines.new.site).told c.in-Err.ensures.why (line_is_longer (codes "total " ++ decimal (length these))) (c.in-Err.ensures.told told);
+      told = list_ended c.in-Err.stop (flat_map triple_line these) (reply_text (Total (length these))) (g.W.Disk.outside c.args.site.now).told (g.W.Disk.outside c.lines.new.site).told c.in-Err.ensures.why (line_is_longer (codes "total " ++ decimal (length these))) c.in-Err.ensures.told;
       says = c.in-Err.ensures.says;
     }
 
@@ -22,9 +22,8 @@ returns-clause-answers g c =
     let said = c.end.ensures.answers in
     record {
       kind = said.kind;
-      told = λ told.
-          let told_then = subst (λ (b : Bool). IsTrue b) (sym c.in-Ok.ensures.says.telling) told in
+      told =
           list_done c.end.result (flat_map triple_line these) (reply_text (Total (length these))) (g.W.Disk.outside c.args.site.now).told (g.W.Disk.outside c.lines.new.site).told (g.W.Disk.outside c.end.new.site).told
-          c.lines.new.piece.items c.end.ensures.why (c.in-Ok.ensures.told told) (rw c.in-Ok.ensures.count at (said.told told_then));
+          c.lines.new.piece.items c.end.ensures.why c.in-Ok.ensures.told (rw c.in-Ok.ensures.count at said.told);
       says = says_more _ (g.W.Disk.outside c.args.site.now) (g.W.Disk.outside c.lines.new.site) (g.W.Disk.outside c.end.new.site) c.in-Ok.ensures.says said.says;
     }

@@ -1,4 +1,4 @@
-use Rattle.std.proofs.Common.{◌≡◌, ◌++◌, ◌∙◌, Bool, List, Err, IsTrue, false, filter, flat_map, take, ap, refl, subst, sym}
+use Rattle.std.proofs.Common.{◌≡◌, ◌++◌, ◌∙◌, List, Err, false, filter, flat_map, take, ap, refl, subst}
 use Rattle.std.proofs.lemmas.List.{take_all}
 use Rattle.ts_model.specs.TextTriple.{TextTriple}
 use Rattle.ts_nt.specs.TripleLine.{triple_line}
@@ -18,8 +18,8 @@ loop-triple-preserved g c =
     let between = g.W.Disk.outside c.loop-triple.site in
     let new = g.W.Disk.outside c.line.new.site in
     record {
-      told = λ told. lines_more each triple_line c.args.triples.now c.loop-triple.triple-index c.triple-item.result c.loop-triple-test.true c.triple-item.is refl old.told between.told new.told
-          c.loop-triple.piece.items c.line.new.piece.items (before.told told) (now.told (subst (λ (b : Bool). IsTrue b) (sym before.says.telling) told));
+      told = lines_more each triple_line c.args.triples.now c.loop-triple.triple-index c.triple-item.result c.loop-triple-test.true c.triple-item.is refl old.told between.told new.told
+          c.loop-triple.piece.items c.line.new.piece.items before.told now.told;
       says = says_more false old between new before.says now.says;
     }
 
@@ -34,11 +34,10 @@ returns-in-Err-clause-answers g c =
     let new = g.W.Disk.outside c.line.new.site in
     subst (λ (these : List TextTriple). Answers (flat_map triple_line these ++ total) false (Err c.in-Err.stop) old new) (each_one triples) (record {
       kind = tt;
-      told = λ told.
-          let said = now.told (subst (λ (b : Bool). IsTrue b) (sym before.says.telling) told) in
+      told = let said = now.told in
           list_ended c.in-Err.stop (flat_map triple_line (filter each triples)) total old.told new.told now.why (reply_is_longer c.args.last.now)
           (lines_ended each triple_line triples c.loop-triple.triple-index c.triple-item.result c.loop-triple-test.true c.triple-item.is refl old.told between.told new.told
-          c.loop-triple.piece.items said.0 (before.told told) c.in-Err.stop said.1);
+          c.loop-triple.piece.items said.0 before.told c.in-Err.stop said.1);
       says = says_more _ old between new before.says now.says;
     })
 
@@ -54,9 +53,8 @@ returns-clause-answers g c =
     let these = ap (filter each) whole ∙ each_one triples in
     record {
       kind = said.kind;
-      told = λ told.
-          list_done c.end.result (flat_map triple_line triples) (reply_text c.args.last.now) old.told between.told new.told c.loop-triple.piece.items c.end.ensures.why
-          (subst (λ (ts : List TextTriple). SaysPrefix AreLines (flat_map triple_line ts) old.told between.told c.loop-triple.piece.items) these (before.told told))
-          (said.told (subst (λ (b : Bool). IsTrue b) (sym before.says.telling) told));
+      told = list_done c.end.result (flat_map triple_line triples) (reply_text c.args.last.now) old.told between.told new.told c.loop-triple.piece.items c.end.ensures.why
+          (subst (λ (ts : List TextTriple). SaysPrefix AreLines (flat_map triple_line ts) old.told between.told c.loop-triple.piece.items) these before.told)
+          said.told;
       says = says_more _ old between new before.says said.says;
     }

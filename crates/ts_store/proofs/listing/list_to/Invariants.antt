@@ -1,4 +1,4 @@
-use Rattle.std.proofs.Common.{false, filter, flat_map, take, IsTrue}
+use Rattle.std.proofs.Common.{false, filter, flat_map, take}
 use Rattle.ts_nt.specs.TripleLine.{triple_line}
 use Rattle.ts_site.specs.Outside.{OnlySays}
 use Rattle.ts_store.specs.Leaves.{AreLines}
@@ -10,7 +10,6 @@ abbrev pub invariant-loop-triple : goal.invariant-loop-triple
 invariant-loop-triple g l =
     let outside = g.W.Disk.outside in
     record {
-      told : IsTrue (outside l.initial.site).tells_output
-          → SaysPrefix AreLines (flat_map triple_line (filter each (take l.triple-index l.triples))) (outside l.initial.site).told (outside l.site).told l.piece.items;
+      told : SaysPrefix AreLines (flat_map triple_line (filter each (take l.triple-index l.triples))) (outside l.initial.site).told (outside l.site).told l.piece.items;
       says : OnlySays false (outside l.initial.site) (outside l.site);
     }

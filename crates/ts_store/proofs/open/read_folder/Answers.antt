@@ -1,4 +1,4 @@
-use Rattle.std.proofs.Common.{◌≡◌, ℕ, List, Bool, IsTrue, IfErr, subst, sym}
+use Rattle.std.proofs.Common.{◌≡◌, ℕ, List, IfErr, subst}
 use Rattle.ts_site.specs.Faults.{is_err_and}
 use Rattle.ts_site.specs.Folder.{Folder}
 use Rattle.ts_site.proofs.GoesLemmas.{reads_more}
@@ -18,8 +18,7 @@ returns-in-Err-clause-settles g c =
 
 pub returns-in-Ok-clause-damaged : goal.returns-in-Ok-clause-damaged
 returns-in-Ok-clause-damaged g c = λ told.
-    let then = subst (λ (b : Bool). IsTrue b) (sym c.in-Ok.ensures.reads.telling) told in
-    subst (λ (f : Folder). IfErr c.read_settled.result (λ stop. (name : List ℕ) → stop ≡ Damaged name → IsFirstDamaged f name)) (c.in-Ok.ensures.reads.folder told) (c.read_settled.ensures.damaged then)
+    subst (λ (f : Folder). IfErr c.read_settled.result (λ stop. (name : List ℕ) → stop ≡ Damaged name → IsFirstDamaged f name)) (c.in-Ok.ensures.reads.folder (c.read_settled.ensures.reads.telling told)) (c.read_settled.ensures.damaged told)
 
 pub returns-in-Ok-clause-reads : goal.returns-in-Ok-clause-reads
 returns-in-Ok-clause-reads g c =

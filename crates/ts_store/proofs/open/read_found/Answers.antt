@@ -1,4 +1,4 @@
-use Rattle.std.proofs.Common.{◌≡◌, ◌∙◌, ℕ, List, All, Bool, IsTrue, IfErr, get_or, sym, subst}
+use Rattle.std.proofs.Common.{◌≡◌, ◌∙◌, ℕ, List, All, IsTrue, IfErr, get_or, sym, subst}
 use Rattle.std.specs.FinMap.{contains_key}
 use Rattle.std.proofs.lemmas.List.Elements.{Contains-get_or}
 use Rattle.ts_plain.specs.History.{history_of}
@@ -24,16 +24,15 @@ pub returns-in-Err-clause-damaged : goal.returns-in-Err-clause-damaged
 returns-in-Err-clause-damaged g c = λ told name is.
     let found = c.args.found.now in
     let folder = (g.W.Disk.outside c.args.site.now).folder in
-    first_layer folder found.layers.items found.rollups.items found.labels.items (c.requires.those told) name
+    first_layer folder found.layers.items found.rollups.items found.labels.items (c.requires.those (c.in-Err.ensures.reads.telling told)) name
     (subst (λ (ns : List ℕ). IsFirstOf folder ns name) c.as_slice.ensures.value (c.in-Err.ensures.damaged told name is))
 
 pub with_labels-requires-clause-told : goal.with_labels-requires-clause-told
-with_labels-requires-clause-told g c = λ told_then.
+with_labels-requires-clause-told g c = λ told.
     let found = c.args.found.now in
     let folder = (g.W.Disk.outside c.args.site.now).folder in
     let ok = c.in-Ok.ensures in
-    let told = subst (λ (b : Bool). IsTrue b) ok.reads.telling told_then in
-    let read = layers_read folder found.layers.items found.rollups.items found.labels.items (c.requires.those told) c.in-Ok.layers.items ok.history (ok.numbers ∙ c.as_slice.ensures.value) (ok.says told)
+    let read = layers_read folder found.layers.items found.rollups.items found.labels.items (c.requires.those (ok.reads.telling told)) c.in-Ok.layers.items ok.history (ok.numbers ∙ c.as_slice.ensures.value) (ok.says told)
     (sym c.as_slice-in-Ok.ensures.value ∙ c.in-Ok-no_rollup.ensures.ok) in
     subst (λ (f : Folder). AreLayersRead f (history_of c.in-Ok.layers.items) c.as_slice-in-Ok-no_rollup.result.now) (sym (ok.reads.folder told))
     (subst (λ (names : List (List ℕ)). AreLayersRead folder (history_of c.in-Ok.layers.items) names) (sym c.as_slice-in-Ok-no_rollup.ensures.value) read)
@@ -43,15 +42,14 @@ returns-in-Err-no_rollup-clause-damaged g c = λ told.
     let found = c.args.found.now in
     let folder = (g.W.Disk.outside c.args.site.now).folder in
     let ok = c.in-Ok.ensures in
-    let those = c.requires.those told in
+    let those = c.requires.those (ok.reads.telling told) in
     rollup_fault folder found.layers.items found.rollups.items found.labels.items c.in-Err-no_rollup.stop those c.requires.rise
     (sound folder found.layers.items found.rollups.items found.labels.items those c.in-Ok.layers.items ok.history (ok.numbers ∙ c.as_slice.ensures.value) (ok.says told))
     (subst (λ (ns : List ℕ). IsRollupStop ns c.in-Err-no_rollup.stop) c.as_slice-in-Ok.ensures.value c.in-Err-no_rollup.ensures.err)
 
 pub returns-in-Ok-no_rollup-clause-damaged : goal.returns-in-Ok-no_rollup-clause-damaged
 returns-in-Ok-no_rollup-clause-damaged g c = λ told.
-    let told_then = subst (λ (b : Bool). IsTrue b) (sym c.in-Ok.ensures.reads.telling) told in
-    subst (λ (f : Folder). IfErr c.with_labels.result (λ stop. (name : List ℕ) → stop ≡ Damaged name → IsFirstDamaged f name)) (c.in-Ok.ensures.reads.folder told) (c.with_labels.ensures.damaged told_then)
+    subst (λ (f : Folder). IfErr c.with_labels.result (λ stop. (name : List ℕ) → stop ≡ Damaged name → IsFirstDamaged f name)) (c.in-Ok.ensures.reads.folder (c.with_labels.ensures.reads.telling told)) (c.with_labels.ensures.damaged told)
 
 pub returns-in-Ok-no_rollup-clause-reads : goal.returns-in-Ok-no_rollup-clause-reads
 returns-in-Ok-no_rollup-clause-reads g c =

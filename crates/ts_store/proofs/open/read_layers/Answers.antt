@@ -1,4 +1,4 @@
-use Rattle.std.proofs.Common.{◌≡◌, ◌∙◌, All, Bool, IsTrue, false, List, [], ◌∷◌, ◌++◌, sym, ap, map, subst, true≢false}
+use Rattle.std.proofs.Common.{◌≡◌, ◌∙◌, All, false, List, [], ◌∷◌, ◌++◌, sym, ap, map, subst, true≢false}
 use Rattle.std.proofs.lemmas.List.Elements.{All-nil, All-push}
 use Rattle.ts_plain.specs.declared.write.PlainLayer.{PlainLayer}
 use Rattle.ts_plain.specs.History.{AreHistory}
@@ -26,9 +26,9 @@ returns-in-Err-clause-damaged g c = λ told name is.
     let i = c.loop-number.number-index in
     let folder = (g.W.Disk.outside c.args.site.now).folder in
     let before = c.loop-number.invariant in
-    let told_then = subst (λ (b : Bool). IsTrue b) (sym before.reads.telling) told in
-    let damaged = rw (before.reads.folder told) at (c.in-Err.ensures.damaged told_then name is) in
-    first_unreadable folder c.loop-number.layers.items before.history (before.says told) numbers c.requires.rise c.requires.numbers i c.loop-number-test.true before.numbers
+    let before_told = c.in-Err.ensures.reads.telling told in
+    let damaged = rw (before.reads.folder before_told) at (c.in-Err.ensures.damaged told name is) in
+    first_unreadable folder c.loop-number.layers.items before.history (before.says before_told) numbers c.requires.rise c.requires.numbers i c.loop-number-test.true before.numbers
     name damaged.0 damaged.1
 
 pub returns-then-not-keeps_to_place-clause-damaged : goal.returns-then-not-keeps_to_place-clause-damaged
@@ -39,10 +39,10 @@ returns-then-not-keeps_to_place-clause-damaged g c = λ told name is.
     let layers = c.loop-number.layers.items in
     let layer = c.in-Ok.layer in
     let before = c.loop-number.invariant in
-    let told_then = subst (λ (b : Bool). IsTrue b) (sym before.reads.telling) told in
-    first_misplaced folder layers before.history (before.says told) numbers c.requires.rise c.requires.numbers i c.loop-number-test.true before.numbers
+    let before_told = c.in-Ok.ensures.reads.telling told in
+    first_misplaced folder layers before.history (before.says before_told) numbers c.requires.rise c.requires.numbers i c.loop-number-test.true before.numbers
     name layer c.in-Ok.ensures.layer.0 c.in-Ok.ensures.layer.1
-    (subst (λ (f : Folder). IsReadFrom f layer) (before.reads.folder told) (c.in-Ok.ensures.says told_then))
+    (subst (λ (f : Folder). IsReadFrom f layer) (before.reads.folder before_told) (c.in-Ok.ensures.says told))
     (λ longer.
     let here = c.keeps_to_place.ensures.1 (subst (λ (ls : List PlainLayer). AreHistory (ls ++ layer ∷ [])) (sym c.as_slice.ensures.value) longer) in
     true≢false (sym here ∙ c.if-not-keeps_to_place.true))
@@ -63,8 +63,8 @@ loop-number-preserved g c =
       numbers = more_numbers layers numbers c.loop-number.number-index layer after c.loop-number-test.true ok.layer.0 before.numbers pushed;
       history = subst AreHistory {x = layers ++ layer ∷ []} {y = after} back (subst (λ (ls : List PlainLayer). AreHistory (ls ++ layer ∷ [])) c.as_slice.ensures.value (c.keeps_to_place.ensures.0 c.if-not-keeps_to_place.false));
       says = λ told.
-          let told_then = subst (λ (b : Bool). IsTrue b) (sym before.reads.telling) told in
-          subst (All (IsReadFrom folder)) {x = layers ++ layer ∷ []} {y = after} back (All-push (IsReadFrom folder) layers layer (before.says told) (subst (λ (f : Folder). IsReadFrom f layer) (before.reads.folder told) (ok.says told_then)));
+          let before_told = ok.reads.telling told in
+          subst (All (IsReadFrom folder)) {x = layers ++ layer ∷ []} {y = after} back (All-push (IsReadFrom folder) layers layer (before.says before_told) (subst (λ (f : Folder). IsReadFrom f layer) (before.reads.folder before_told) (ok.says told)));
       reads = reads_more false (g.W.Disk.outside c.args.site.now) (g.W.Disk.outside c.loop-number.site) (g.W.Disk.outside c.read_layer.new.site) before.reads ok.reads;
     }
 

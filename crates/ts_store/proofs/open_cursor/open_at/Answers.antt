@@ -4,13 +4,14 @@ use Rattle.ts_model.specs.Listing.{select}
 use Rattle.ts_plain.specs.History.{history_of}
 use Rattle.ts_script.specs.Replies.{reply_text}
 use Rattle.ts_script.specs.declared.reply.Reply.TheVariants.{CursorOpen}
+use Rattle.ts_site.proofs.GoesLemmas.{says_none}
 use Rattle.ts_store.specs.Does.{Answers}
 use Rattle.ts_store.specs.Fetches.{opens}
 use Rattle.ts_store.specs.State.{State}
 use Rattle.ts_store.proofs.AnswerLaws.{output_alone}
 use Rattle.ts_store.proofs.FetchLaws.{does_open}
 use Rattle.ts_store.proofs.PrefixLaws.{reply_is_longer}
-use Rattle.ts_store.proofs.PublishLaws.{does_nothing, only_nothing}
+use Rattle.ts_store.proofs.PublishLaws.{does_nothing}
 use Rattle.ts_store.proofs.open_cursor.open_at.Goals as goal
 use Rattle.ts_store.proofs.open_cursor.open_at.Goals.{in-Err-open, in-Ok-open}
 
@@ -38,6 +39,6 @@ pub returns-after-open-clause-alone : goal.returns-after-open-clause-alone
 returns-after-open-clause-alone g c =
     let old = g.W.Disk.outside c.args.site.now in
     elim c.match-open.branch [
-      | in-Err-open w ↦ rw (w.site-is, w.result-is) (only_nothing old)
+      | in-Err-open w ↦ rw (w.site-is, w.result-is) (says_none old)
       | in-Ok-open w ↦ rw (w.site-is, w.result-is) w.reply.ensures.answers.says
     ]

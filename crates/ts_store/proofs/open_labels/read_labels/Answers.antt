@@ -1,4 +1,4 @@
-use Rattle.std.proofs.Common.{◌≡◌, ◌∙◌, All, Bool, IsTrue, false, Some, None, refl, sym, subst}
+use Rattle.std.proofs.Common.{◌≡◌, ◌∙◌, All, false, Some, None, refl, sym, subst}
 use Rattle.std.specs.FinMap.{empty, get, insert}
 use Rattle.std.proofs.lemmas.List.{take_all}
 use Rattle.std.proofs.lemmas.List.Elements.{All-nil}
@@ -28,9 +28,9 @@ pub returns-in-Err-clause-damaged : goal.returns-in-Err-clause-damaged
 returns-in-Err-clause-damaged g c = λ told name is.
     let folder = (g.W.Disk.outside c.args.site.now).folder in
     let before = c.loop-name.invariant in
-    let told_then = subst (λ (b : Bool). IsTrue b) (sym before.reads.telling) told in
-    let damaged = rw (before.reads.folder told) at (c.in-Err.ensures.damaged told_then name is) in
-    first_label folder (history_of c.args.layers.now) c.args.names.now (c.requires.told told) c.loop-name.table.labels before.named c.requires.rise c.loop-name.name-index c.loop-name-test.true (before.read told)
+    let before_told = c.in-Err.ensures.reads.telling told in
+    let damaged = rw (before.reads.folder before_told) at (c.in-Err.ensures.damaged told name is) in
+    first_label folder (history_of c.args.layers.now) c.args.names.now (c.requires.told (before.reads.telling before_told)) c.loop-name.table.labels before.named c.requires.rise c.loop-name.name-index c.loop-name-test.true (before.read before_told)
     c.name-item.result c.name-item.is name damaged.0 damaged.1
 
 pub loop-name-preserved : goal.loop-name-preserved
@@ -49,9 +49,9 @@ loop-name-preserved g c =
       named = subst (AreLabelsOf (history_of c.args.layers.now)) (sym put) (named_put (history_of c.args.layers.now) labels name label before.named ok.label);
       among = among_more labels after name label put names (i, c.loop-name-test.true, sym c.name-item.is) before.among;
       read = λ told.
-          let told_then = subst (λ (b : Bool). IsTrue b) (sym before.reads.telling) told in
-          let file = subst (λ (f : Folder). get f (label_file_name name) ≡ Some (label_text label)) (before.reads.folder told) (ok.says told_then) in
-          read_more labels after name label put folder file names i c.loop-name-test.true c.name-item.is (before.read told);
+          let before_told = ok.reads.telling told in
+          let file = subst (λ (f : Folder). get f (label_file_name name) ≡ Some (label_text label)) (before.reads.folder before_told) (ok.says told) in
+          read_more labels after name label put folder file names i c.loop-name-test.true c.name-item.is (before.read before_told);
       reads = reads_more false (g.W.Disk.outside c.args.site.now) (g.W.Disk.outside c.loop-name.site) (g.W.Disk.outside c.read_label.new.site) before.reads ok.reads;
     }
 
@@ -61,7 +61,7 @@ returns-clause-says g c = λ told.
     let names = c.args.names.now in
     let labels = c.loop-name.table.labels in
     let before = c.loop-name.invariant in
-    says_labels folder (history_of c.args.layers.now) names (c.requires.told told) labels before.named (state_of c.args.layers.now labels empty None) refl refl before.among
+    says_labels folder (history_of c.args.layers.now) names (c.requires.told (before.reads.telling told)) labels before.named (state_of c.args.layers.now labels empty None) refl refl before.among
     (subst (All (IsLabelRead folder labels)) (take_all c.loop-name.name-index names c.loop-name-test.false) (before.read told))
 
 pub returns-in-Err-clause-reads : goal.returns-in-Err-clause-reads

@@ -34,7 +34,7 @@ returns-else-is_err-clause-does g c = λ labels cursors.
     does_publish layers labels cursors c.args.last.now c.requires.history layer c.requires.next c.as_slice-in-Ok-Some.result.now counted (c.as_slice-in-Ok-Some.ensures.value ∙ made.0)
     (subst (λ (ls : List PlainLayer). AreHistory (ls ++ layer ∷ [])) c.as_slice.ensures.value made.1)
     c.publish.new.layers.items c.publish.new.last c.publish.result (g.W.Disk.outside c.args.site.now) (g.W.Disk.outside c.publish.new.site)
-    (rw c.reserve.ensures.items at published.layers) published.told published.folder published.why published.disk published.say published.tells published.crash published.safe
+    (rw c.reserve.ensures.items at published.layers) published.told published.folder published.why published.disk published.say published.last published.tells published.crash published.safe
 
 pub returns-in-Ok-None-clause-does : goal.returns-in-Ok-None-clause-does
 returns-in-Ok-None-clause-does g c = λ labels cursors.

@@ -11,8 +11,8 @@ use Rattle.ts_store.proofs.StandsLaws.{stands_after}
 use Rattle.ts_store.proofs.session.Session.step.Goals as goal
 
 pub returns-clause-told : goal.returns-clause-told
-returns-clause-told g c = λ state keeps told.
-    subst (λ (s : State). LeavesTold c.dispatch-done.result (step_of s c.args.command.now).told (g.W.Disk.outside c.args.site.now).told (g.W.Disk.outside c.dispatch-done.new.site).told) keeps.store (c.dispatch-done.ensures.does.told told)
+returns-clause-told g c = λ state keeps.
+    subst (λ (s : State). LeavesTold c.dispatch-done.result (step_of s c.args.command.now).told (g.W.Disk.outside c.args.site.now).told (g.W.Disk.outside c.dispatch-done.new.site).told) keeps.store c.dispatch-done.ensures.does.told
 
 pub returns-clause-folder : goal.returns-clause-folder
 returns-clause-folder g c = λ state keeps told.
@@ -34,12 +34,12 @@ returns-clause-stands g c = λ state keeps told stands.
     (stands_after new c.args.self.now.store c.args.command.now here.says.kept here.counted c.dispatch-done.result (c.dispatch-done.ensures.does.tells_state told here.says))
 
 pub returns-clause-safe : goal.returns-clause-safe
-returns-clause-safe g c = λ state keeps at.
+returns-clause-safe g c = λ state keeps honest at.
     let asked = c.args.command.now in
     let old = g.W.Disk.outside c.args.site.now in
     let new = g.W.Disk.outside c.dispatch-done.new.site in
     let here : IsSettledAt Stands c.args.self.now.store old = subst (λ (s : State). IsSettledAt Stands s old) (sym keeps.store) at in
-    let says : IsSettledAt FolderSays c.args.self.now.store old = record { honest = here.honest; is = here.is.says; leaves = here.leaves } in
+    let says : IsSettledAt FolderSays c.args.self.now.store old = record { is = here.is.says; leaves = here.leaves } in
     subst (λ (s : State). IsSafe Stands s (step_of s asked) c.dispatch-done.result old new) keeps.store
     (safe_stands c.args.self.now.store (step_of c.args.self.now.store asked) c.dispatch-done.result old new here.is.counted (counted_after c.args.self.now.store asked here.is.says.kept here.is.counted)
-    (c.dispatch-done.ensures.does.safe says))
+    (c.dispatch-done.ensures.does.safe honest says))
