@@ -1,8 +1,8 @@
 -- A crash at any moment of a run leaves a folder that stands for a prefix of its commands.
-use Rattle.std.proofs.Common.{◌≡◌, ◌⊎◌, ℕ, zero, suc, ◌+◌, ◌<◌, ◌≤◌, Bool, true, false, nat_lt, List, [], ◌∷◌, ◌++◌, length, take, IsTrue, Option, None, Some, Result, Ok, Err, inl, inr, refl, sym, ap, ◌∙◌, subst, arith, append-nil, append_assoc, length-append, get_or, add-one}
+use Rattle.std.proofs.Common.{◌≡◌, ◌⊎◌, ℕ, zero, suc, ◌+◌, ◌<◌, Bool, true, false, nat_lt, List, [], ◌∷◌, ◌++◌, length, take, IsTrue, Option, None, Some, Result, Ok, Err, inl, inr, refl, sym, ap, ◌∙◌, subst, arith, append-nil, append_assoc, get_or}
 use Rattle.std.proofs.lemmas.Bool.{ltb-false, ltb-true}
 use Rattle.std.proofs.lemmas.List.{take_all}
-use Rattle.ts_site.specs.Crash.{AddsNone, CrashState, EachImage, IsImage, settled}
+use Rattle.ts_site.specs.Crash.{AddsNone, CrashState, IsImage, settled}
 use Rattle.ts_site.specs.Folder.{Folder}
 use Rattle.ts_site.specs.Moments.{GoesOn, Moment}
 use Rattle.ts_site.specs.Outside.{AddsNoImage, Falls, IsHonest, Outside, moments_of}
@@ -11,7 +11,6 @@ use Rattle.ts_site.proofs.GoesLemmas.{falls_more, goes_more, goes_none, goes_wea
 use Rattle.ts_script.specs.declared.command.Command.{Command}
 use Rattle.ts_store.specs.declared.stop.Kind.{Kind}
 use Rattle.ts_store.specs.declared.stop.Stop.{Stop}
-use Rattle.ts_store.specs.FolderSays.{FolderSays}
 use Rattle.ts_store.specs.Safe.{IsSafe, IsSettledAt, IsStepMoment, SettlesAll}
 use Rattle.ts_store.specs.Stands.{Stands}
 use Rattle.ts_store.specs.State.{IsFresh, State}
@@ -20,9 +19,9 @@ use Rattle.ts_store.specs.Steps.{after, answer_at, answers}
 use Rattle.ts_store.proofs.SafeLaws.{agrees_stands}
 use Rattle.ts_store.proofs.SettledLaws.{leaves_settled, settled_stands}
 use Rattle.ts_cli.specs.Asked.{AreCommands, Asking}
-use Rattle.ts_cli.specs.Change.{Change, LeavesAll, change_of}
+use Rattle.ts_cli.specs.Change.{Change, change_of}
 use Rattle.ts_cli.specs.Crash.{IsCrashSafe, IsOpeningMoment, IsPrefixMoment, LeavesAfter}
-use Rattle.ts_cli.specs.Ends.{AreDone, ComesTo, Ends, EndsAfter, IsUnsettled, LeavesUnsettled, Opens, OpensAndComes, StepsFrom, StopsEarly}
+use Rattle.ts_cli.specs.Ends.{AreDone, ComesTo, Ends, EndsAfter, IsUnsettled, LeavesUnsettled, Opens, StepsFrom, StopsEarly}
 use Rattle.ts_cli.specs.declared.outcome.Outcome.{Outcome}
 use Rattle.ts_cli.proofs.CommandsLemmas.{after_front, after_next, after_none, answers_none}
 use Rattle.ts_cli.proofs.HeadlineLaws.{all_same, given_first, same_state}

@@ -1,5 +1,5 @@
 -- The headline from how a run ends: a folder tells one state, and words and an input are one list of commands.
-use Rattle.std.proofs.Common.{◌≡◌, ◌⊎◌, ℕ, ◌+◌, ◌≤◌, Bool, List, [], ◌∷◌, ◌++◌, length, take, cond, IsTrue, Option, None, Some, Err, inl, inr, sym, ap, ◌∙◌, subst, arith, append-nil, append_assoc, length-append}
+use Rattle.std.proofs.Common.{◌≡◌, ◌⊎◌, ℕ, ◌+◌, ◌≤◌, List, [], ◌∷◌, ◌++◌, length, take, cond, IsTrue, Option, None, Some, Err, inl, inr, sym, ap, ◌∙◌, subst, arith, append-nil, append_assoc, length-append}
 use Rattle.std.specs.Prelude.{MatchOption}
 use Rattle.ts_site.specs.Folder.{Folder}
 use Rattle.ts_site.specs.Outside.{Outside}

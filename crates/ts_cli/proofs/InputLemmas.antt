@@ -1,5 +1,5 @@
 -- What the lines of an input ask for.
-use Rattle.std.proofs.Common.{◌≡◌, ℕ, Bool, true, false, IsTrue, true≢false, refl, List, sym}
+use Rattle.std.proofs.Common.{ℕ, Bool, true, false, IsTrue, true≢false, refl, List, sym}
 use Rattle.ts_script.specs.Lines.{lines_of}
 use Rattle.ts_script.specs.Commands.{IsCommand}
 use Rattle.ts_script.specs.declared.command.Command.{Command}

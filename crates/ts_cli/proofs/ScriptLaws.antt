@@ -26,7 +26,7 @@ use Rattle.ts_store.specs.Steps.{after, any_refused}
 use Rattle.ts_store.specs.Stops.{IsOpeningStop, IsStepStop, is_disk_fault, is_output_fault}
 use Rattle.ts_cli.specs.Asked.{AreFirst, AreGiven, AreNoWords, Asking, IsOfScript, asking, run_words}
 use Rattle.ts_cli.specs.Causes.{HasCause, IsOverLimit, LimitCause, is_input_fault, is_stop_and}
-use Rattle.ts_cli.specs.Change.{LeavesAll, change_of}
+use Rattle.ts_cli.specs.Change.{change_of}
 use Rattle.ts_cli.specs.Ends.{AreAllWhole, AreDone, ComesTo, Ends, IsBetween, Opens, StepsFrom}
 use Rattle.ts_cli.specs.Outcomes.{IsAfterReading, ended_outcome, stopped_outcome}
 use Rattle.ts_cli.specs.Script.{IsScriptStop}

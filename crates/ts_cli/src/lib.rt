@@ -13,9 +13,9 @@
 
 #[cfg(test)]
 mod fault_tests;
+mod law;
 #[cfg(test)]
 mod layer_tests;
-mod law;
 mod outcome;
 mod running;
 mod script;

@@ -1,7 +1,7 @@
 // A worked run, and how it is played.
+use crate::run_in_memory;
 use std::alloc::Global;
 use std::test::Fail;
-use crate::run_in_memory;
 use ts_cli::{Outcome, stop_line};
 use ts_site::{CallKind, FaultKind, FileName, MemorySite, MemorySource};
 

@@ -1,4 +1,4 @@
-use Rattle.std.proofs.Common.{◌≡◌, ℕ, ◌<◌, ◌^◌, ◌++◌, [], Bool, List, IsTrue, None, Ok, Err, length, map, true≢false, refl, sym, ap, ◌∙◌, subst, arith, length-append}
+use Rattle.std.proofs.Common.{◌≡◌, ℕ, ◌<◌, ◌^◌, ◌++◌, [], List, IsTrue, None, Ok, Err, length, map, true≢false, refl, sym, ap, ◌∙◌, subst, arith}
 use Rattle.ts_script.specs.Cutting.{lines_to_come, progress}
 use Rattle.ts_script.specs.Lines.{line_view, lines_of}
 use Rattle.ts_script.proofs.CuttingLemmas.{below_limit, left-left, over_limit, took-nothing, took-took}

@@ -1,7 +1,5 @@
-use Rattle.std.proofs.Common.{◌≡◌, List, ℕ, inl, inr, map, refl, string_bytes, sym, ◌∙◌, subst}
-use Rattle.std.specs.Prelude.{Result, Err}
+use Rattle.std.proofs.Common.{inr, map, refl, string_bytes, subst}
 use Rattle.ts_script.specs.Commands.{IsStopFor}
-use Rattle.ts_script.specs.declared.stop.ScriptStop.TheVariants.{Fault, Limit, Memory}
 use Rattle.ts_cli.proofs.InputLemmas.{asks_of}
 use Rattle.ts_cli.proofs.SingleLaws.{awaits_none, terms_none}
 use Rattle.ts_cli.proofs.single.read_command.Goals as goal
