@@ -1,11 +1,10 @@
 use Rattle.std.proofs.Common.{sym, subst}
 use Rattle.ts_site.specs.Outside.{IsHonest}
-use Rattle.ts_site.specs.Faults.{is_err_and}
 use Rattle.ts_site.specs.Folder.{Folder}
 use Rattle.ts_store.specs.FolderSays.{FolderSays}
 use Rattle.ts_store.specs.Keeps.{Keeps}
 use Rattle.ts_store.specs.Step.{step_of}
-use Rattle.ts_store.specs.Stops.{is_disk_fault, kind_of}
+use Rattle.ts_store.specs.Stops.{kind_of}
 use Rattle.ts_cli.specs.Change.{LeavesAll, change_of}
 use Rattle.ts_cli.specs.Ends.{StepsFrom}
 use Rattle.ts_cli.proofs.SingleLaws.{comes_of}
@@ -21,7 +20,7 @@ returns-clause-ends g c = λ told.
     let new = g.W.Disk.outside c.step.new.site in
     let told_then : IsHonest middle = c.step.ensures.tells told in
     let (state, keeps, fresh, says) = opened.says told_then in
-    let all : LeavesAll (change_of old middle) = reads_all (is_err_and is_disk_fault c.open.result) old middle opened.reads told_then in
+    let all : LeavesAll (change_of old middle) = reads_all _ old middle opened.reads told_then in
     let says_then = subst (λ (folder : Folder). FolderSays folder state) (sym all.folder) says in
     let does : StepsFrom (change_of middle new) state asked c.step.result = record {
       says = says_then;
