@@ -1,6 +1,7 @@
 -- The causes of stops that hold of every run.
 use Rattle.std.proofs.Common.{◌≡◌, ◌⊎◌, ℕ, ◌^◌, ◌<◌, Bool, IsTrue, List, length, Option, None, Some, Result, Err, inl, inr, refl, subst, arith}
 use Rattle.ts_site.specs.Faults.{CountsFault, IsCalm, Rose, is_err_and}
+use Rattle.ts_site.specs.Outside.{IsHonest}
 use Rattle.ts_store.specs.declared.stop.Stop.{Stop}
 use Rattle.ts_store.specs.declared.stop.Stop.TheVariants.{Usage, Damaged, DiskFault, InputFault, OutputFault, InputLimit, Memory}
 use Rattle.ts_store.specs.FolderSays.{IsFirstDamaged}
@@ -23,7 +24,7 @@ counts_stop test result stop old new is counts = subst (λ (r : Result _ Stop). 
 -- where nothing fails, only memory is wanted
 module _ (s : Change) (a : Asking) (left_after : List ℕ) (faults faults_after : ℕ) where
   pub complete : (stop : Option Stop) → HasCause s a left_after faults faults_after stop → (AreNoWords a.words → ⊥)
-      → (ReadInput a.words → IsTrue a.tells × (length a.left < 2 ^ 40)) → IsTrue s.before.tells_folder → ((name : List ℕ) → IsFirstDamaged s.before.folder name → ⊥)
+      → (ReadInput a.words → IsTrue a.tells × (length a.left < 2 ^ 40)) → IsHonest s.after → ((name : List ℕ) → IsFirstDamaged s.before.folder name → ⊥)
       → IsCalm s.before.disk_faults s.after.disk_faults → IsCalm s.before.say_faults s.after.say_faults → IsCalm faults faults_after
       → (stop ≡ None) ⊎ (stop ≡ Some Memory)
   complete None cause command short tells sound disk output input = inl refl

@@ -1,7 +1,7 @@
 -- States and replies along a list of commands, and the commands that come first in a script.
-use Rattle.std.proofs.Common.{◌≡◌, ℕ, suc, ◌+◌, Bool, ◌||◌, List, [], ◌∷◌, ◌++◌, length, refl, sym, ap, ◌∙◌, subst, add-one}
+use Rattle.std.proofs.Common.{◌≡◌, ℕ, suc, ◌+◌, Bool, ◌||◌, List, [], ◌∷◌, ◌++◌, length, refl, sym, ap, ◌∙◌, subst, add-one, arith, append_assoc, length-append}
 use Rattle.std.proofs.Math.Bool.{or-false, or_assoc}
-use Rattle.ts_script.specs.Script.{AreScript, IsNextCommand, IsPassedOver}
+use Rattle.ts_script.specs.Script.{AreScript, AreWholeCommands, HasNoWholeCommand, IsNextCommand, IsPassedOver, IsWholeCommand}
 use Rattle.ts_script.specs.ScriptBody.{AreAll}
 use Rattle.ts_script.specs.declared.command.Command.{Command}
 use Rattle.ts_script.proofs.ScriptLaws.{none_next, same_next}
@@ -66,6 +66,36 @@ first_more before lines [] next rest asked taken behind (number, same) is = (
 )
 first_more before lines (first ∷ done) next rest asked taken behind (took, middle, one, firsts) is =
     (took, middle, one, first_more (before + length took) middle done next rest asked taken behind firsts is)
+
+-- ---- commands that stand whole
+
+-- The commands stand whole at the front of the lines, one after another. Behind them stands the rest, with `next` lines before it.
+abbrev pub AreFirstWhole : ℕ → List (List ℕ) → List Command → ℕ → List (List ℕ) → Type 0
+AreFirstWhole before lines [] next rest = (next ≡ before) × (rest ≡ lines)
+AreFirstWhole before lines (asked ∷ commands) next rest =
+    (taken behind : List (List ℕ)) × (lines ≡ taken ++ behind) × IsWholeCommand before taken asked × AreFirstWhole (before + length taken) behind commands next rest
+
+pub whole_more : (before : ℕ) (lines : List (List ℕ)) (done : List Command) (next : ℕ) (rest : List (List ℕ)) (asked : Command) (taken behind : List (List ℕ))
+    → AreFirstWhole before lines done next rest → rest ≡ taken ++ behind → IsWholeCommand next taken asked → AreFirstWhole before lines (done ++ asked ∷ []) (next + length taken) behind
+whole_more before lines [] next rest asked taken behind (number, same) parts is =
+    (taken, behind, sym same ∙ parts, subst (λ (n : ℕ). IsWholeCommand n taken asked) number is, (ap (λ (n : ℕ). n + length taken) number, refl))
+whole_more before lines (first ∷ done) next rest asked taken behind (took, middle, all, one, firsts) parts is =
+    (took, middle, all, one, whole_more (before + length took) middle done next rest asked taken behind firsts parts is)
+
+-- they are all that stand whole in the lines before these, where no other one does
+pub whole_all : (before : ℕ) (lines : List (List ℕ)) (done : List Command) (next : ℕ) (rest given more : List (List ℕ)) → AreFirstWhole before lines done next rest → rest ≡ given ++ more
+    → HasNoWholeCommand next given → (whole : List (List ℕ)) × (lines ≡ whole ++ more) × (before + length whole ≡ next + length given) × AreWholeCommands before whole done
+whole_all before lines [] next rest given more (number, same) parts none =
+    (given, sym same ∙ parts, ap (λ (n : ℕ). n + length given) (sym number), subst (λ (n : ℕ). HasNoWholeCommand n given) number none)
+whole_all before lines (asked ∷ done) next rest given more (taken, behind, all, one, firsts) parts none =
+    let (whole, is, count, are) = whole_all (before + length taken) behind done next rest given more firsts parts none in (
+      taken ++ whole,
+      all ∙ ap (λ (ls : List (List ℕ)). taken ++ ls) is ∙ sym (append_assoc taken whole more),
+      omega (arith, count, length-append taken whole),
+      (taken, whole, refl, one, are),
+    )
+
+-- ---- the whole script
 
 -- where no command is left they are the whole script
 pub first_whole : (before : ℕ) (lines : List (List ℕ)) (done : List Command) (next : ℕ) (rest : List (List ℕ)) → AreFirst before lines done next rest → AreAll IsPassedOver rest → AreScript before lines done

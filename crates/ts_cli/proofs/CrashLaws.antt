@@ -1,17 +1,16 @@
 -- A crash at any moment of a run leaves a folder that stands for a prefix of its commands.
-use Rattle.std.proofs.Common.{◌≡◌, ◌⊎◌, ℕ, zero, suc, ◌+◌, ◌<◌, ◌≤◌, Bool, true, false, nat_lt, List, [], ◌∷◌, ◌++◌, length, take, IsTrue, Option, None, Some, Result, Ok, Err, inl, inr, refl, sym, ap, ◌∙◌, subst, arith, append-nil, append_assoc, length-append, get_or, add-one}
+use Rattle.std.proofs.Common.{◌≡◌, ◌⊎◌, ℕ, zero, suc, ◌+◌, ◌<◌, Bool, true, false, nat_lt, List, [], ◌∷◌, ◌++◌, length, take, IsTrue, Option, None, Some, Result, Ok, Err, inl, inr, refl, sym, ap, ◌∙◌, subst, arith, append-nil, append_assoc, get_or}
 use Rattle.std.proofs.lemmas.Bool.{ltb-false, ltb-true}
 use Rattle.std.proofs.lemmas.List.{take_all}
-use Rattle.ts_site.specs.Crash.{AddsNone, CrashState, EachImage, IsImage, settled}
+use Rattle.ts_site.specs.Crash.{AddsNone, CrashState, IsImage, settled}
 use Rattle.ts_site.specs.Folder.{Folder}
 use Rattle.ts_site.specs.Moments.{GoesOn, Moment}
-use Rattle.ts_site.specs.Outside.{AddsNoImage, IsHonest, Outside, moments_of}
+use Rattle.ts_site.specs.Outside.{AddsNoImage, Falls, IsHonest, Outside, moments_of}
 use Rattle.ts_site.proofs.CrashLemmas.{adds_none_more, adds_none_same}
-use Rattle.ts_site.proofs.GoesLemmas.{goes_more, goes_weaker, honest_reads}
+use Rattle.ts_site.proofs.GoesLemmas.{falls_more, goes_more, goes_none, goes_weaker}
 use Rattle.ts_script.specs.declared.command.Command.{Command}
 use Rattle.ts_store.specs.declared.stop.Kind.{Kind}
 use Rattle.ts_store.specs.declared.stop.Stop.{Stop}
-use Rattle.ts_store.specs.FolderSays.{FolderSays}
 use Rattle.ts_store.specs.Safe.{IsSafe, IsSettledAt, IsStepMoment, SettlesAll}
 use Rattle.ts_store.specs.Stands.{Stands}
 use Rattle.ts_store.specs.State.{IsFresh, State}
@@ -20,13 +19,13 @@ use Rattle.ts_store.specs.Steps.{after, answer_at, answers}
 use Rattle.ts_store.proofs.SafeLaws.{agrees_stands}
 use Rattle.ts_store.proofs.SettledLaws.{leaves_settled, settled_stands}
 use Rattle.ts_cli.specs.Asked.{AreCommands, Asking}
-use Rattle.ts_cli.specs.Change.{Change, LeavesAll, change_of}
+use Rattle.ts_cli.specs.Change.{Change, change_of}
 use Rattle.ts_cli.specs.Crash.{IsCrashSafe, IsOpeningMoment, IsPrefixMoment, LeavesAfter}
-use Rattle.ts_cli.specs.Ends.{AreDone, ComesTo, Ends, EndsAfter, IsUnsettled, Opens, OpensAndComes, StepsFrom, StopsEarly}
+use Rattle.ts_cli.specs.Ends.{AreDone, ComesTo, Ends, EndsAfter, IsUnsettled, LeavesUnsettled, Opens, StepsFrom, StopsEarly}
 use Rattle.ts_cli.specs.declared.outcome.Outcome.{Outcome}
 use Rattle.ts_cli.proofs.CommandsLemmas.{after_front, after_next, after_none, answers_none}
 use Rattle.ts_cli.proofs.HeadlineLaws.{all_same, given_first, same_state}
-use Rattle.ts_cli.proofs.SafeLaws.{still_honest, still_settled}
+use Rattle.ts_cli.proofs.StepsLemmas.{done_telling}
 use Rattle.ts_store.proofs.TellsLaws.{step_tells}
 
 -- ---- between two steps
@@ -35,7 +34,7 @@ proper_none : (state : State) (commands : List Command) → (0 ≡ length comman
 proper_none state [] = inl refl
 proper_none state (asked ∷ rest) = inr (step_tells state asked)
 
-module _ (a b : Outside) (state : State) (commands : List Command) (at : IsSettledAt Stands state a) (adds : AddsNoImage a b) where
+module _ (a b : Outside) (state : State) (commands : List Command) (at : IsSettledAt Stands state a) (adds : AddsNoImage a b) (honest : IsHonest b) where
   still_moment : (moment : Moment) → AddsNone moment.crash a.crash × (moment.told ≡ a.told) → IsPrefixMoment state commands a.told moment
   still_moment moment (none, same) = record {
     done = 0;
@@ -47,7 +46,7 @@ module _ (a b : Outside) (state : State) (commands : List Command) (at : IsSettl
   }
 
   still_prefix : GoesOn (IsPrefixMoment state commands a.told) (moments_of a) (moments_of b)
-  still_prefix = goes_weaker (λ moment. AddsNone moment.crash a.crash × (moment.told ≡ a.told)) (IsPrefixMoment state commands a.told) (moments_of a) (moments_of b) still_moment (adds.moments at.honest.images)
+  still_prefix = goes_weaker (λ moment. AddsNone moment.crash a.crash × (moment.told ≡ a.told)) (IsPrefixMoment state commands a.told) (moments_of a) (moments_of b) still_moment (adds.moments honest)
 
 -- ---- the first step
 
@@ -131,22 +130,20 @@ module _ (state : State) (asked : Command) (rest : List Command) where
 -- ---- the steps that were done
 
 stepped_at : (a b : Outside) (state : State) (asked : Command) (kind : Kind) → StepsFrom (change_of a b) state asked (Ok kind) → IsSettledAt Stands state a → IsSettledAt Stands (step_of state asked).state b
-stepped_at a b state asked kind one at = let safe = one.safe at in record { honest = safe.honest; is = one.stands_after at.is; leaves = safe.ok }
+stepped_at a b state asked kind one at = record { is = one.stands_after at.is; leaves = (one.safe at).ok }
 
 done_settled : (a b : Outside) (state : State) (done : List Command) → IsSettledAt Stands state a → AreDone (change_of a b) state done → IsSettledAt Stands (after state done (length done)) b
-done_settled a b state [] at all = still_settled a b state all at
+done_settled a b state [] at still = subst (λ (o : Outside). IsSettledAt Stands state o) (sym still) at
 done_settled a b state (asked ∷ done) at (middle, kind, one, rest) = done_settled middle b (step_of state asked).state done (stepped_at a middle state asked kind one at) rest
 
 done_prefix : (a b c : Outside) (state : State) (done more : List Command) → IsSettledAt Stands state a → AreDone (change_of a b) state done
     → GoesOn (IsPrefixMoment (after state done (length done)) more b.told) (moments_of b) (moments_of c) → GoesOn (IsPrefixMoment state (done ++ more) a.told) (moments_of a) (moments_of c)
-done_prefix a b c state [] more at all tail =
-    goes_more (IsPrefixMoment state more a.told) (moments_of a) (moments_of b) (moments_of c) (still_prefix a b state more at all.images)
-    (subst (λ (told : List ℕ). GoesOn (IsPrefixMoment state more told) (moments_of b) (moments_of c)) all.told tail)
+done_prefix a b c state [] more at still tail = subst (λ (o : Outside). GoesOn (IsPrefixMoment state more o.told) (moments_of o) (moments_of c)) still tail
 done_prefix a b c state (asked ∷ done) more at (middle, kind, one, rest) tail =
     let next = (step_of state asked).state in
     goes_more (IsPrefixMoment state (asked ∷ done ++ more) a.told) (moments_of a) (moments_of middle) (moments_of c) (step_prefix state asked (done ++ more) a middle (Ok kind) (one.safe at))
     (goes_weaker (IsPrefixMoment next (done ++ more) middle.told) (IsPrefixMoment state (asked ∷ done ++ more) a.told) (moments_of middle) (moments_of c)
-    (later_moment state asked (done ++ more) a.told middle.told (one.told at.honest.output))
+    (later_moment state asked (done ++ more) a.told middle.told one.told)
     (done_prefix middle b c next done more (stepped_at a middle state asked kind one at) rest tail))
 
 -- ---- the last moment
@@ -165,10 +162,11 @@ module _ (state : State) (done : List Command) (commands : List Command) (middle
   here = after state done (length done)
 
   -- what is left where nothing was done any more
-  still_leaves : (more : List Command) → commands ≡ done ++ more → LeavesAll (change_of middle c) → LeavesAfter state commands (length done) c.crash
-  still_leaves more parts all = λ image is.
+  still_leaves : (more : List Command) → commands ≡ done ++ more → c ≡ middle → LeavesAfter state commands (length done) c.crash
+  still_leaves more parts still = λ image is.
       let same : after state commands (length done) ≡ here = ap (λ (cs : List Command). after state cs (length done)) parts ∙ after_front state done more in
-      inl (subst (λ (s : State). Stands image s) (sym same) (settled_stands middle here c.crash at (all.images.now at.honest.images) image is))
+      let then : IsImage middle.crash image = subst (λ (o : Outside). IsImage o.crash image) still is in
+      inl (subst (λ (s : State). Stands image s) (sym same) (agrees_stands middle.folder image here (at.leaves image then) at.is))
 
   -- or one more step was begun
   step_leaves : (asked : Command) (more : List Command) → commands ≡ done ++ asked ∷ more → (answer : Result Kind Stop) → IsSafe Stands here (step_of here asked) answer middle c → LeavesAfter state commands (length done) c.crash
@@ -206,15 +204,17 @@ module _ (a b c : Outside) (asking : Asking) (told_input : IsTrue asking.tells) 
     leaves,
   )
 
-  still : (more : List Command) → commands ≡ done ++ more → LeavesAll (change_of b c) → Crashes
-  still more parts all = crashes more parts (still_prefix b c then_state more then_at all.images) (still_leaves state done commands b c then_at more parts all)
+  still : (more : List Command) → commands ≡ done ++ more → c ≡ b → Crashes
+  still more parts same =
+      crashes more parts (subst (λ (o : Outside). GoesOn (IsPrefixMoment then_state more b.told) (moments_of b) (moments_of o)) (sym same) (goes_none (IsPrefixMoment then_state more b.told) (moments_of b)))
+      (still_leaves state done commands b c then_at more parts same)
 
-  ends_prefix : (stop : Option Stop) → EndsAfter (change_of b c) asking state done stop → Crashes
-  ends_prefix None (given, whole, all) = still [] (all_same asking told_input commands are done (whole told_input) ∙ sym (append-nil done)) all
-  ends_prefix (Some stop) (inl (run, between, given, all)) =
+  ends_prefix : (left_after : List ℕ) (stop : Option Stop) → EndsAfter (change_of b c) asking left_after state done stop → Crashes
+  ends_prefix left_after None (given, whole, same) = still [] (all_same asking told_input commands are done (whole told_input) ∙ sym (append-nil done)) same
+  ends_prefix left_after (Some stop) (inl (run, between, given, wholes, same)) =
       let (more, parts) = given_first asking told_input commands are done given in
-      still more parts all
-  ends_prefix (Some stop) (inr (asked, given, why, does)) =
+      still more parts same
+  ends_prefix left_after (Some stop) (inr (asked, given, why, does)) =
       let (more, first) = given_first asking told_input commands are (done ++ asked ∷ []) given in
       let parts : commands ≡ done ++ asked ∷ more = first ∙ append_assoc done (asked ∷ []) more in
       let safe = does.safe then_at in
@@ -222,20 +222,22 @@ module _ (a b c : Outside) (asking : Asking) (told_input : IsTrue asking.tells) 
 
 -- ---- every run
 
-opening_moments : (a b : Outside) → IsHonest a → AddsNoImage a b → GoesOn (IsOpeningMoment a) (moments_of a) (moments_of b)
+opening_moments : (a b : Outside) → IsHonest b → AddsNoImage a b → GoesOn (IsOpeningMoment a) (moments_of a) (moments_of b)
 opening_moments a b honest adds =
-    goes_weaker (λ moment. AddsNone moment.crash a.crash × (moment.told ≡ a.told)) (IsOpeningMoment a) (moments_of a) (moments_of b) (λ moment is. record { told = is.1; adds = is.0 }) (adds.moments honest.images)
+    goes_weaker (λ moment. AddsNone moment.crash a.crash × (moment.told ≡ a.told)) (IsOpeningMoment a) (moments_of a) (moments_of b) (λ moment is. record { told = is.1; adds = is.0 }) (adds.moments honest)
 
 -- from the moment when the folder was settled on a crash leaves what stands for its state
-module _ (a b : Outside) (state : State) (honest : IsHonest a) (stands : Stands a.folder state) (settles : SettlesAll a b) where
+module _ (a b : Outside) (state : State) (honest : IsHonest b) (stands : Stands a.folder state) (settles : SettlesAll a b) where
   abbrev middle : Outside
   middle = settles.middle
 
+  middle_honest : IsHonest middle
+  middle_honest = settles.since.telling honest
+
   middle_at : IsSettledAt Stands state middle
   middle_at =
-      let same = settles.before.folder honest.folder in
+      let same = settles.before.folder middle_honest in
       record {
-        honest = honest_reads false a middle settles.before honest;
         is = subst (λ (f : Folder). Stands f state) (sym same) stands;
         leaves = leaves_settled a.folder middle.folder middle.crash same (adds_none_same (settled a.folder) middle.crash settles.settles);
       }
@@ -244,31 +246,40 @@ module _ (a b : Outside) (state : State) (honest : IsHonest a) (stands : Stands 
   middle_told = settles.before.output.same_told
 
   settled_opening : GoesOn (IsOpeningMoment a) (moments_of a) (moments_of middle)
-  settled_opening = opening_moments a middle honest settles.before.images
+  settled_opening = opening_moments a middle middle_honest settles.before.images
 
   settled_prefix : (commands : List Command) → GoesOn (IsPrefixMoment state commands a.told) (moments_of middle) (moments_of b)
   settled_prefix commands =
-      subst (λ (told : List ℕ). GoesOn (IsPrefixMoment state commands told) (moments_of middle) (moments_of b)) middle_told (still_prefix middle b state commands middle_at settles.since)
+      subst (λ (told : List ℕ). GoesOn (IsPrefixMoment state commands told) (moments_of middle) (moments_of b)) middle_told (still_prefix middle b state commands middle_at settles.since honest)
 
   settled_leaves : AddsNone b.crash middle.crash
-  settled_leaves = settles.since.now middle_at.honest.images
+  settled_leaves = settles.since.now honest
 
-opened_at : (a b : Outside) (state : State) → IsHonest a → Stands a.folder state → Opens a b → IsSettledAt Stands state b
+opened_at : (a b : Outside) (state : State) → IsHonest b → Stands a.folder state → Opens a b → IsSettledAt Stands state b
 opened_at a b state honest stands opens =
-    let settles = opens.settles honest.images in
-    let same = opens.all.folder honest.folder in
+    let settles = opens.settles in
+    let same = opens.all.folder in
     record {
-      honest = still_honest a b opens.all honest;
       is = subst (λ (f : Folder). Stands f state) (sym same) stands;
       leaves =
           leaves_settled a.folder b.folder b.crash same
           (adds_none_more (settled a.folder) settles.middle.crash b.crash (adds_none_same (settled a.folder) settles.middle.crash settles.settles) (settled_leaves a b state honest stands settles));
     }
 
-module _ (s : Change) (honest : IsHonest s.before) (a : Asking) (told_input : IsTrue a.tells) (state : State) (fresh : IsFresh state) (stands : Stands s.before.folder state)
-    (commands : List Command) (are : AreCommands a.words a.left commands) (outcome : Outcome) where
+-- what is told in the end was told where the folder was opened
+ends_telling : (a b : Outside) (asking : Asking) (left_after : List ℕ) (state : State) (done : List Command) (stop : Option Stop) → EndsAfter (change_of a b) asking left_after state done stop → Falls a b
+ends_telling a b asking left_after state done None (given, whole, still) = λ honest. subst (λ (o : Outside). IsHonest o) still honest
+ends_telling a b asking left_after state done (Some stop) (inl (run, between, given, wholes, still)) = λ honest. subst (λ (o : Outside). IsHonest o) still honest
+ends_telling a b asking left_after state done (Some stop) (inr (asked, given, why, does)) = does.telling
+
+comes_telling : (a b : Outside) (asking : Asking) (left_after : List ℕ) (outcome : Outcome) (state : State) (done : List Command) → ComesTo (change_of a b) asking left_after outcome state done → Falls a b
+comes_telling a b asking left_after outcome state done comes =
+    falls_more a comes.middle b (done_telling a comes.middle state done comes.steps) (ends_telling comes.middle b asking left_after state done outcome.stop comes.ends)
+
+module _ (s : Change) (honest : IsHonest s.after) (a : Asking) (told_input : IsTrue a.tells) (state : State) (fresh : IsFresh state) (stands : Stands s.before.folder state)
+    (commands : List Command) (are : AreCommands a.words a.left commands) (left_after : List ℕ) (outcome : Outcome) where
   -- a run that stopped before its first command
-  stopped_safe : (early : StopsEarly s a.words outcome) → (IsUnsettled a.words early.stop × (s.after.crash ≡ s.before.crash)) ⊎ SettlesAll s.before s.after
+  stopped_safe : (early : StopsEarly s a.words outcome) → (IsUnsettled a.words early.stop × LeavesUnsettled early.stop s.before s.after) ⊎ SettlesAll s.before s.after
       → IsCrashSafe a.words outcome state commands s.before s.after
   stopped_safe early (inl (unsettled, same)) = inl (record {
     stop = early.stop;
@@ -291,22 +302,23 @@ module _ (s : Change) (honest : IsHonest s.before) (a : Asking) (told_input : Is
         (settled_stands settles.middle state s.after.crash (middle_at s.before s.after state honest stands settles) (settled_leaves s.before s.after state honest stands settles) image is)));
   })
 
-  pub headline_crash : Ends s a outcome → IsCrashSafe a.words outcome state commands s.before s.after
-  headline_crash (inl early) = stopped_safe early (early.settles honest.images)
+  pub headline_crash : Ends s a left_after outcome → IsCrashSafe a.words outcome state commands s.before s.after
+  headline_crash (inl early) = stopped_safe early early.settles
   headline_crash (inr (other, done, opened)) =
       let then = change_of opened.opened s.after in
-      let here : ComesTo then a outcome state done =
-      subst (λ (st : State). ComesTo then a outcome st done) (same_state s honest.folder a told_input state fresh stands commands are outcome other opened.comes.fresh opened.says) opened.comes in
-      let at : IsSettledAt Stands state opened.opened = opened_at s.before opened.opened state honest stands opened.opens in
-      let settles = opened.opens.settles honest.images in
-      let crashes = ends_prefix opened.opened here.middle s.after a told_input state commands are done at here.steps outcome.stop here.ends in
+      let here : ComesTo then a left_after outcome state done =
+      subst (λ (st : State). ComesTo then a left_after outcome st done) (same_state s a told_input state fresh stands commands are left_after outcome other opened.comes.fresh opened.says) opened.comes in
+      let honest_then : IsHonest opened.opened = comes_telling opened.opened s.after a left_after outcome state done here honest in
+      let at : IsSettledAt Stands state opened.opened = opened_at s.before opened.opened state honest_then stands opened.opens in
+      let settles = opened.opens.settles in
+      let crashes = ends_prefix opened.opened here.middle s.after a told_input state commands are done at here.steps left_after outcome.stop here.ends in
       inr (record {
         middle = settles.middle;
         settles = settles.settles;
-        opening = settled_opening s.before opened.opened state honest stands settles;
+        opening = settled_opening s.before opened.opened state honest_then stands settles;
         steps =
             goes_more (IsPrefixMoment state commands s.before.told) (moments_of settles.middle) (moments_of opened.opened) (moments_of s.after)
-            (settled_prefix s.before opened.opened state honest stands settles commands)
+            (settled_prefix s.before opened.opened state honest_then stands settles commands)
             (subst (λ (told : List ℕ). GoesOn (IsPrefixMoment state commands told) (moments_of opened.opened) (moments_of s.after)) opened.opens.all.told crashes.0);
         now = subst (λ (n : ℕ). LeavesAfter state commands n s.after.crash) (sym here.count) crashes.1;
       })

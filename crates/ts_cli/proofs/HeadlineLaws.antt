@@ -1,5 +1,5 @@
 -- The headline from how a run ends: a folder tells one state, and words and an input are one list of commands.
-use Rattle.std.proofs.Common.{◌≡◌, ◌⊎◌, ℕ, ◌+◌, ◌≤◌, Bool, List, [], ◌∷◌, ◌++◌, length, take, cond, IsTrue, Option, None, Some, Err, inl, inr, sym, ap, ◌∙◌, subst, arith, append-nil, append_assoc, length-append}
+use Rattle.std.proofs.Common.{◌≡◌, ◌⊎◌, ℕ, ◌+◌, ◌≤◌, List, [], ◌∷◌, ◌++◌, length, take, cond, IsTrue, Option, None, Some, Err, inl, inr, sym, ap, ◌∙◌, subst, arith, append-nil, append_assoc, length-append}
 use Rattle.std.specs.Prelude.{MatchOption}
 use Rattle.ts_site.specs.Folder.{Folder}
 use Rattle.ts_site.specs.Outside.{Outside}
@@ -26,7 +26,7 @@ use Rattle.ts_cli.specs.Headline.{StandsAfter, StandsAfterStop, TellsReplies}
 use Rattle.ts_cli.specs.Outcomes.{stop_status}
 use Rattle.ts_cli.specs.declared.outcome.Outcome.{Outcome}
 use Rattle.ts_cli.proofs.CommandsLemmas.{after_front, after_next, after_none, answer_next, answers_front, answers_none, first_of}
-use Rattle.ts_cli.proofs.StepsLemmas.{done_stands, done_telling, done_told}
+use Rattle.ts_cli.proofs.StepsLemmas.{done_stands, done_told}
 
 -- ---- one list of commands
 
@@ -99,13 +99,13 @@ module _ (folder : Folder) (state : State) (commands : List Command) (done : ℕ
 
 -- ---- a run that came to its steps
 
-module _ (s : Change) (told_folder : IsTrue s.before.tells_folder) (a : Asking) (told_input : IsTrue a.tells) (state : State) (stands : Stands s.before.folder state)
-    (commands : List Command) (are : AreCommands a.words a.left commands) (done : List Command) (middle : Outside) (steps : AreDone (change_of s.before middle) state done) where
+module _ (s : Change) (a : Asking) (told_input : IsTrue a.tells) (state : State) (stands : Stands s.before.folder state)
+    (commands : List Command) (are : AreCommands a.words a.left commands) (left_after : List ℕ) (done : List Command) (middle : Outside) (steps : AreDone (change_of s.before middle) state done) where
   then_state : State
   then_state = after state done (length done)
 
   stands_then : Stands middle.folder (after state done (length done))
-  stands_then = done_stands s.before middle told_folder state done stands steps
+  stands_then = done_stands s.before middle state done stands steps
 
   -- the commands are these and some more
   module _ (more : List Command) (parts : commands ≡ done ++ more) (count : ℕ) (counts : count ≡ length done) where
@@ -130,51 +130,46 @@ module _ (s : Change) (told_folder : IsTrue s.before.tells_folder) (a : Asking) 
       let (more, parts) = given_first a told_input commands are (done ++ asked ∷ []) given in
       (more, parts ∙ append_assoc done (asked ∷ []) more)
 
-  module _ (told_output : IsTrue s.before.tells_output) where
-    told_then : middle.told ≡ s.before.told ++ answers state done (length done)
-    told_then = done_told s.before middle told_output state done steps
+  told_then : middle.told ≡ s.before.told ++ answers state done (length done)
+  told_then = done_told s.before middle state done steps
 
-    replies_after : (status count : ℕ) (stop : Option Stop) → count ≡ length done
-        → MatchOption stop (status ≡ cond (any_refused state done) 1 0) (λ stop. status ≡ stop_status stop)
-        → EndsAfter (change_of middle s.after) a state done stop
-        → TellsReplies (record { status = status; done = count; stop = stop }) state commands s.before.told s.after.told
-    replies_after status count None counts is (given, whole, all) =
-        let same : commands ≡ done = all_same a told_input commands are done (whole told_input) in
-        let parts : commands ≡ done ++ [] = same ∙ sym (append-nil done) in (
-          counts ∙ ap length (sym same),
-          all.told ∙ told_then ∙ ap (λ (l : List ℕ). s.before.told ++ l) (sym (answers_then [] parts count counts)),
-          is ∙ ap (λ (cs : List Command). cond (any_refused state cs) 1 0) (sym same),
-        )
-    replies_after status count (Some stop) counts is (inl (run, between, given, all)) =
-        let (more, parts) = given_first a told_input commands are done given in (
-          within more parts count counts,
-          0,
-          all.told ∙ told_then
-              ∙ ap (λ (l : List ℕ). s.before.told ++ l) (sym (answers_then more parts count counts) ∙ sym (append-nil (answers state commands count))),
-        )
-    replies_after status count (Some stop) counts is (inr (asked, given, why, does)) =
-        let (more, parts) = asked_first asked given in
-        let telling = done_telling s.before middle state done steps in
-        let (n, told) = some_told stop (step_of (after state done (length done)) asked).told middle.told s.after.told
-        (does.told (subst (λ (b : Bool). IsTrue b) (sym telling.output) told_output)) in (
-          within (asked ∷ more) parts count counts,
-          n,
-          told ∙ ap (λ (l : List ℕ). l ++ take n (step_of (after state done (length done)) asked).told) told_then
-              ∙ append_assoc s.before.told (answers state done (length done)) (take n (step_of (after state done (length done)) asked).told)
-              ∙ (λ i. s.before.told ++ (sym (answers_then (asked ∷ more) parts count counts) i ++ take n (sym (answer_then asked more parts count counts) i))),
-        )
-
-  folder_after : (status count : ℕ) (stop : Option Stop) → count ≡ length done → EndsAfter (change_of middle s.after) a state done stop
-      → StandsAfter (record { status = status; done = count; stop = stop }) state commands s.after.folder
-  folder_after status count None counts (given, whole, all) =
+  replies_after : (status count : ℕ) (stop : Option Stop) → count ≡ length done
+      → MatchOption stop (status ≡ cond (any_refused state done) 1 0) (λ stop. status ≡ stop_status stop)
+      → EndsAfter (change_of middle s.after) a left_after state done stop
+      → TellsReplies (record { status = status; done = count; stop = stop }) state commands s.before.told s.after.told
+  replies_after status count None counts is (given, whole, still) =
       let same : commands ≡ done = all_same a told_input commands are done (whole told_input) in
-      let telling = done_telling s.before middle state done steps in
-      let kept : s.after.folder ≡ middle.folder = all.folder (subst (λ (b : Bool). IsTrue b) (sym telling.folder) told_folder) in
+      let parts : commands ≡ done ++ [] = same ∙ sym (append-nil done) in (
+        counts ∙ ap length (sym same),
+        ap (λ (o : Outside). o.told) still ∙ told_then ∙ ap (λ (l : List ℕ). s.before.told ++ l) (sym (answers_then [] parts count counts)),
+        is ∙ ap (λ (cs : List Command). cond (any_refused state cs) 1 0) (sym same),
+      )
+  replies_after status count (Some stop) counts is (inl (run, between, given, wholes, still)) =
+      let (more, parts) = given_first a told_input commands are done given in (
+        within more parts count counts,
+        0,
+        ap (λ (o : Outside). o.told) still ∙ told_then
+            ∙ ap (λ (l : List ℕ). s.before.told ++ l) (sym (answers_then more parts count counts) ∙ sym (append-nil (answers state commands count))),
+      )
+  replies_after status count (Some stop) counts is (inr (asked, given, why, does)) =
+      let (more, parts) = asked_first asked given in
+      let (n, told) = some_told stop (step_of (after state done (length done)) asked).told middle.told s.after.told does.told in (
+        within (asked ∷ more) parts count counts,
+        n,
+        told ∙ ap (λ (l : List ℕ). l ++ take n (step_of (after state done (length done)) asked).told) told_then
+            ∙ append_assoc s.before.told (answers state done (length done)) (take n (step_of (after state done (length done)) asked).told)
+            ∙ (λ i. s.before.told ++ (sym (answers_then (asked ∷ more) parts count counts) i ++ take n (sym (answer_then asked more parts count counts) i))),
+      )
+
+  folder_after : (status count : ℕ) (stop : Option Stop) → count ≡ length done → EndsAfter (change_of middle s.after) a left_after state done stop
+      → StandsAfter (record { status = status; done = count; stop = stop }) state commands s.after.folder
+  folder_after status count None counts (given, whole, still) =
+      let same : commands ≡ done = all_same a told_input commands are done (whole told_input) in
+      let kept : s.after.folder ≡ middle.folder = ap (λ (o : Outside). o.folder) still in
       subst (λ (st : State). Stands s.after.folder st) (sym (after_then [] (same ∙ sym (append-nil done)) count counts)) (subst (λ (f : Folder). Stands f (after state done (length done))) (sym kept) stands_then)
-  folder_after status count (Some stop) counts (inl (run, between, given, all)) =
+  folder_after status count (Some stop) counts (inl (run, between, given, wholes, still)) =
       let (more, parts) = given_first a told_input commands are done given in
-      let telling = done_telling s.before middle state done steps in
-      let kept : s.after.folder ≡ middle.folder = all.folder (subst (λ (b : Bool). IsTrue b) (sym telling.folder) told_folder) in
+      let kept : s.after.folder ≡ middle.folder = ap (λ (o : Outside). o.folder) still in
       stop_still s.after.folder state commands count (after state done (length done)) (after_then more parts count counts) stop
       (subst (λ (f : Folder). Stands f (after state done (length done))) (sym kept) stands_then)
   folder_after status count (Some stop) counts (inr (asked, given, why, does)) =
@@ -184,8 +179,8 @@ module _ (s : Change) (told_folder : IsTrue s.before.tells_folder) (a : Asking) 
 
 -- ---- every run
 
-module _ (s : Change) (told_folder : IsTrue s.before.tells_folder) (a : Asking) (told_input : IsTrue a.tells) (state : State) (fresh : IsFresh state) (stands : Stands s.before.folder state)
-    (commands : List Command) (are : AreCommands a.words a.left commands) (outcome : Outcome) where
+module _ (s : Change) (a : Asking) (told_input : IsTrue a.tells) (state : State) (fresh : IsFresh state) (stands : Stands s.before.folder state)
+    (commands : List Command) (are : AreCommands a.words a.left commands) (left_after : List ℕ) (outcome : Outcome) where
   -- the state that the folder tells is this one
   pub same_state : (other : State) → IsFresh other → FolderSays s.before.folder other → other ≡ state
   same_state other also says =
@@ -195,31 +190,31 @@ module _ (s : Change) (told_folder : IsTrue s.before.tells_folder) (a : Asking) 
       let labels = same_labels s.before.folder other state says stands.says in
       λ i. record { history = same i; labels = labels i; cursors = cursors i; last = last i }
 
-  pub headline_replies : Ends s a outcome → IsTrue s.before.tells_output → TellsReplies outcome state commands s.before.told s.after.told
-  headline_replies (inl early) told_output =
+  pub headline_replies : Ends s a left_after outcome → TellsReplies outcome state commands s.before.told s.after.told
+  headline_replies (inl early) =
       subst (λ (o : Outcome). TellsReplies o state commands s.before.told s.after.told) (sym early.outcome_is)
       (omega arith, 0, early.all.told ∙ sym (append-nil s.before.told) ∙ ap (λ (l : List ℕ). s.before.told ++ l) (sym (answers_none state commands) ∙ sym (append-nil (answers state commands 0))))
-  headline_replies (inr (other, done, opened)) told_output =
+  headline_replies (inr (other, done, opened)) =
       let then = change_of opened.opened s.after in
       let all = opened.opens.all in
-      let here : ComesTo then a outcome state done = subst (λ (st : State). ComesTo then a outcome st done) (same_state other opened.comes.fresh opened.says) opened.comes in
+      let here : ComesTo then a left_after outcome state done = subst (λ (st : State). ComesTo then a left_after outcome st done) (same_state other opened.comes.fresh opened.says) opened.comes in
       subst (λ (told : List ℕ). TellsReplies outcome state commands told s.after.told) all.told
-      (replies_after then (subst (λ (b : Bool). IsTrue b) (sym all.telling.folder) told_folder) a told_input state (subst (λ (f : Folder). Stands f state) (sym (all.folder told_folder)) stands)
-      commands are done here.middle here.steps (subst (λ (b : Bool). IsTrue b) (sym all.telling.output) told_output) outcome.status outcome.done outcome.stop here.count here.status here.ends)
+      (replies_after then a told_input state (subst (λ (f : Folder). Stands f state) (sym all.folder) stands)
+      commands are left_after done here.middle here.steps outcome.status outcome.done outcome.stop here.count here.status here.ends)
 
-  pub headline_folder : Ends s a outcome → StandsAfter outcome state commands s.after.folder
+  pub headline_folder : Ends s a left_after outcome → StandsAfter outcome state commands s.after.folder
   headline_folder (inl early) =
-      let kept : Stands s.after.folder state = subst (λ (f : Folder). Stands f state) (sym (early.all.folder told_folder)) stands in
+      let kept : Stands s.after.folder state = subst (λ (f : Folder). Stands f state) (sym early.all.folder) stands in
       subst (λ (o : Outcome). StandsAfter o state commands s.after.folder) (sym early.outcome_is) (stop_still s.after.folder state commands 0 state (after_none state commands) early.stop kept)
   headline_folder (inr (other, done, opened)) =
       let then = change_of opened.opened s.after in
       let all = opened.opens.all in
-      let here : ComesTo then a outcome state done = subst (λ (st : State). ComesTo then a outcome st done) (same_state other opened.comes.fresh opened.says) opened.comes in
-      folder_after then (subst (λ (b : Bool). IsTrue b) (sym all.telling.folder) told_folder) a told_input state (subst (λ (f : Folder). Stands f state) (sym (all.folder told_folder)) stands)
-      commands are done here.middle here.steps outcome.status outcome.done outcome.stop here.count here.ends
+      let here : ComesTo then a left_after outcome state done = subst (λ (st : State). ComesTo then a left_after outcome st done) (same_state other opened.comes.fresh opened.says) opened.comes in
+      folder_after then a told_input state (subst (λ (f : Folder). Stands f state) (sym all.folder) stands)
+      commands are left_after done here.middle here.steps outcome.status outcome.done outcome.stop here.count here.ends
 
 -- a run that came to its steps saw no damaged file, and one that named a file named the first
-module _ (s : Change) (a : Asking) (outcome : Outcome) (ends : Ends s a outcome) (first : (name : List ℕ) → outcome.stop ≡ Some (Damaged name) → IsFirstDamaged s.before.folder name) where
+module _ (s : Change) (a : Asking) (left_after : List ℕ) (outcome : Outcome) (ends : Ends s a left_after outcome) (first : (name : List ℕ) → outcome.stop ≡ Some (Damaged name) → IsFirstDamaged s.before.folder name) where
   found : (name : List ℕ) → IsFirstDamaged s.before.folder name → (stop : Stop) → outcome.stop ≡ Some stop → IsEarly a.words stop → (Some stop ≡ Some (Damaged name)) ⊎ IsBeforeOpening a.words (Some stop)
   found name damaged (Damaged other) is early = inl (ap (λ (n : List ℕ). Some (Damaged n)) (same_damaged s.before.folder other name (first other is) damaged))
   found name damaged DiskFault is early = inr tt
@@ -232,7 +227,7 @@ module _ (s : Change) (a : Asking) (outcome : Outcome) (ends : Ends s a outcome)
   pub damaged_cause : DamagedCause a.words s.before.folder outcome.stop
   damaged_cause = λ name. (first name, by_end ends)
     where
-      by_end : {name : List ℕ} → Ends s a outcome → IsFirstDamaged s.before.folder name → (outcome.stop ≡ Some (Damaged name)) ⊎ IsBeforeOpening a.words outcome.stop
+      by_end : {name : List ℕ} → Ends s a left_after outcome → IsFirstDamaged s.before.folder name → (outcome.stop ≡ Some (Damaged name)) ⊎ IsBeforeOpening a.words outcome.stop
       by_end {name} (inl early) damaged =
           let is : outcome.stop ≡ Some early.stop = ap (λ (o : Outcome). o.stop) early.outcome_is in
           subst (λ (stop : Option Stop). (stop ≡ Some (Damaged name)) ⊎ IsBeforeOpening a.words stop) (sym is) (found name damaged early.stop is early.early)

@@ -2,8 +2,8 @@ mod CauseLaws
 mod CommandsLemmas
 mod CrashLaws
 mod HeadlineLaws
+mod ListLaws
 mod InputLemmas
-mod SafeLaws
 mod ScriptLaws
 mod SingleLaws
 mod SquashRows

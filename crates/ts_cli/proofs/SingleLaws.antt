@@ -2,8 +2,11 @@
 use Rattle.std.proofs.Common.{◌≡◌, ◌⊎◌, ℕ, ◌^◌, ◌<◌, Bool, true, false, cond, IsTrue, List, [], ◌∷◌, length, Option, None, Some, Result, Ok, Err, IfErr, inl, inr, refl, sym, ap, ◌∙◌, subst, arith}
 use Rattle.std.proofs.Math.Bool.{or-false}
 use Rattle.ts_site.specs.Faults.{CountsFault}
-use Rattle.ts_site.specs.Outside.{Outside}
+use Rattle.ts_site.specs.Crash.{settled}
+use Rattle.ts_site.specs.Moments.{IsChangedOrNot}
+use Rattle.ts_site.specs.Outside.{IsHonest, Outside}
 use Rattle.ts_script.specs.Commands.{AwaitBody, IsCommand, IsNoCommand}
+use Rattle.ts_script.specs.Heads.{HaveTerms}
 use Rattle.ts_script.specs.declared.command.Command.{Command}
 use Rattle.ts_store.specs.declared.stop.Kind.{Kind}
 use Rattle.ts_store.specs.declared.stop.Stop.{Stop}
@@ -16,7 +19,7 @@ use Rattle.ts_store.specs.Stops.{IsOpeningStop, IsStepStop, is_disk_fault, is_ou
 use Rattle.ts_cli.specs.Asked.{AreCommands, AreRun, Asking, Asks, ReadInput}
 use Rattle.ts_cli.specs.Causes.{HasCause, IsOverLimit, LimitCause, UsageCause, is_input_fault}
 use Rattle.ts_cli.specs.Change.{Change, LeavesAll, change_of}
-use Rattle.ts_cli.specs.Ends.{ComesTo, Ends, IsEarly, IsUnsettled}
+use Rattle.ts_cli.specs.Ends.{ComesTo, Ends, IsEarly, IsUnsettled, LeavesUnsettled}
 use Rattle.ts_cli.specs.Outcomes.{HasStatus, IsAfterReading, IsReadingStop, ended_outcome, stopped_outcome}
 use Rattle.ts_cli.specs.Single.{ComesToStep, IsNotOpened, IsStepped}
 use Rattle.ts_cli.specs.Tally.{is_refused}
@@ -29,20 +32,25 @@ use Rattle.ts_cli.proofs.StepsLemmas.{no_change}
 pub awaits_none : (words : List (List ℕ)) → IsNoCommand words → AwaitBody words → ⊥
 awaits_none words none (opening, is) = none _ is
 
+-- memory is wanted of them only for terms
+pub terms_none : (words : List (List ℕ)) → IsNoCommand words → AwaitBody words ⊎ HaveTerms words → HaveTerms words
+terms_none words none (inl awaits) = absurd (awaits_none words none awaits)
+terms_none words none (inr terms) = terms
+
 -- words that aren't `run` read the input as a body
 pub reads_body : (words : List (List ℕ)) → (AreRun words → ⊥) → ReadInput words → AwaitBody words
 reads_body words single (inl run) = absurd (single run)
 reads_body words single (inr awaits) = awaits
 
 -- a command that was read is no stop
-pub read_no_stop : {C : Type 0} (command : C) → (Ok command ≡ Err Usage) ⊎ (Ok command ≡ Err Memory) → ⊥
+pub read_no_stop : {C T : Type 0} (command : C) → (Ok command ≡ Err Usage) ⊎ ((Ok command ≡ Err Memory) × T) → ⊥
 read_no_stop command (inl is) = cc
-read_no_stop command (inr is) = cc
+read_no_stop command (inr is) = let e = is.0 in cc
 
 -- a stop is one of the two that it is answered as
-pub same_stop : {C : Type 0} (stop : Stop) → ◌≡◌ {A = Result C Stop} (Err stop) (Err Usage) ⊎ ◌≡◌ {A = Result C Stop} (Err stop) (Err Memory) → (stop ≡ Usage) ⊎ (stop ≡ Memory)
+pub same_stop : {C T : Type 0} (stop : Stop) → ◌≡◌ {A = Result C Stop} (Err stop) (Err Usage) ⊎ (◌≡◌ {A = Result C Stop} (Err stop) (Err Memory) × T) → (stop ≡ Usage) ⊎ ((stop ≡ Memory) × T)
 same_stop stop (inl is) = inl (cc)
-same_stop stop (inr is) = inr (cc)
+same_stop stop (inr (is, fact)) = inr (cc, fact)
 
 -- a stop that comes before the folder is opened
 abbrev pub ComesFirst : Stop → Type 0
@@ -86,13 +94,22 @@ unsettled_first words single (Damaged name) (inr is) = absurd is
 unsettled_first words single OutputFault (inl is) = absurd (cc)
 unsettled_first words single OutputFault (inr is) = absurd is
 
+leaves_same : (before after : Outside) (stop : Stop) → after.crash ≡ before.crash → LeavesUnsettled stop before after
+leaves_same before after DiskFault same = inr same
+leaves_same before after Usage same = same
+leaves_same before after (Damaged name) same = same
+leaves_same before after InputFault same = same
+leaves_same before after OutputFault same = same
+leaves_same before after InputLimit same = same
+leaves_same before after Memory same = same
+
 -- at a stop of the opening the folder was settled, or nothing where the disk failed
 settled_or : (words : List (List ℕ)) (before after : Outside) (stop : Stop) → IsOpeningStop stop → StopsSettled stop before after
-    → IsTrue before.tells_images → (IsUnsettled words stop × (after.crash ≡ before.crash)) ⊎ SettlesAll before after
+    → IsHonest after → (IsUnsettled words stop × LeavesUnsettled stop before after) ⊎ SettlesAll before after
 settled_or words before after DiskFault why settles told = by_side (settles told)
   where
-    by_side : (after.crash ≡ before.crash) ⊎ SettlesAll before after → (IsUnsettled words DiskFault × (after.crash ≡ before.crash)) ⊎ SettlesAll before after
-    by_side (inl same) = inl (tt, same)
+    by_side : IsChangedOrNot (settled before.folder) before.crash after.crash ⊎ SettlesAll before after → (IsUnsettled words DiskFault × LeavesUnsettled DiskFault before after) ⊎ SettlesAll before after
+    by_side (inl changed) = inl (tt, changed)
     by_side (inr all) = inr all
 settled_or words before after (Damaged name) why settles told = inr (settles told)
 settled_or words before after Memory why settles told = inr (settles told)
@@ -109,56 +126,56 @@ pub kind_refused : (kind : Kind) (refused : Bool) → kind ≡ kind_of refused �
 kind_refused kind true is = ap is_refused is
 kind_refused kind false is = ap is_refused is
 
-module _ (s : Change) (a : Asking) where
+module _ (s : Change) (a : Asking) (left_after : List ℕ) where
   -- a stop before the folder was opened
-  pub ends_first : (outcome : Outcome) (stop : Stop) → outcome ≡ stopped_outcome 0 stop → (AreRun a.words → ⊥) → ComesFirst stop → LeavesAll s → s.after.crash ≡ s.before.crash → Ends s a outcome
+  pub ends_first : (outcome : Outcome) (stop : Stop) → outcome ≡ stopped_outcome 0 stop → (AreRun a.words → ⊥) → ComesFirst stop → LeavesAll s → s.after.crash ≡ s.before.crash → Ends s a left_after outcome
   ends_first outcome stop is single why all same = inl (record {
     stop = stop;
     outcome_is = is;
     early = early_first a.words single stop why;
     all = all;
-    settles = λ told. inl (unsettled_first a.words single stop why, same);
+    settles = inl (unsettled_first a.words single stop why, leaves_same s.before s.after stop same);
   })
 
   -- a stop of the opening
-  pub ends_opening : (outcome : Outcome) (stop : Stop) → outcome ≡ stopped_outcome 0 stop → IsNotOpened s stop → Ends s a outcome
-  ends_opening outcome stop is (why, all, settles) = inl (record {
+  pub ends_opening : (outcome : Outcome) (stop : Stop) → outcome ≡ stopped_outcome 0 stop → IsHonest s.after → IsNotOpened s stop → Ends s a left_after outcome
+  ends_opening outcome stop is honest (why, all, settles) = inl (record {
     stop = stop;
     outcome_is = is;
     early = early_opening a.words stop why;
     all = all;
-    settles = settled_or a.words s.before s.after stop why settles;
+    settles = settled_or a.words s.before s.after stop why settles honest;
   })
 
   module _ (asked : Command) (asks : Asks a asked) where
-    pub ends_stopped : (outcome : Outcome) (stop : Stop) → outcome ≡ stopped_outcome 0 stop → ComesToStep s asked (Err stop) → Ends s a outcome
-    ends_stopped outcome stop is (inl closed) = ends_opening outcome stop is closed
-    ends_stopped outcome stop is (inr (why, (state, does))) =
+    pub ends_stopped : (outcome : Outcome) (stop : Stop) → outcome ≡ stopped_outcome 0 stop → IsHonest s.after → ComesToStep s asked (Err stop) → Ends s a left_after outcome
+    ends_stopped outcome stop is honest (inl closed) = ends_opening outcome stop is honest closed
+    ends_stopped outcome stop is honest (inr (why, (state, does))) =
         let then = change_of does.opened s.after in
-        let comes : ComesTo then a (stopped_outcome 0 stop) state [] = record {
+        let comes : ComesTo then a left_after (stopped_outcome 0 stop) state [] = record {
           fresh = does.fresh;
           says = does.steps.says;
           count = refl;
           status = refl;
           middle = does.opened;
-          steps = no_change does.opened;
+          steps = refl;
           ends = inr (asked, inr (asked, asks, refl), why, does.steps);
         } in
-        inr (state, [], record { says = does.says; opened = does.opened; opens = does.opens; comes = subst (λ (o : Outcome). ComesTo then a o state []) (sym is) comes })
+        inr (state, [], record { says = does.says; opened = does.opened; opens = does.opens; comes = subst (λ (o : Outcome). ComesTo then a left_after o state []) (sym is) comes })
 
-    pub ends_answered : (outcome : Outcome) (kind : Kind) → outcome ≡ ended_outcome 1 (is_refused kind) → ComesToStep s asked (Ok kind) → Ends s a outcome
+    pub ends_answered : (outcome : Outcome) (kind : Kind) → outcome ≡ ended_outcome 1 (is_refused kind) → ComesToStep s asked (Ok kind) → Ends s a left_after outcome
     ends_answered outcome kind is (state, does) =
         let then = change_of does.opened s.after in
-        let comes : ComesTo then a (ended_outcome 1 (is_refused kind)) state (asked ∷ []) = record {
+        let comes : ComesTo then a left_after (ended_outcome 1 (is_refused kind)) state (asked ∷ []) = record {
           fresh = does.fresh;
           says = does.steps.says;
           count = refl;
           status = ap (λ (b : Bool). cond b 1 0) (kind_refused kind (step_of state asked).refused does.steps.kind ∙ sym (or-false (step_of state asked).refused));
           middle = s.after;
-          steps = (s.after, kind, does.steps, no_change s.after);
-          ends = (inr (asked, asks, refl), asked_all a asked asks, no_change s.after);
+          steps = (s.after, kind, does.steps, refl);
+          ends = (inr (asked, asks, refl), asked_all a asked asks, refl);
         } in
-        inr (state, asked ∷ [], record { says = does.says; opened = does.opened; opens = does.opens; comes = subst (λ (o : Outcome). ComesTo then a o state (asked ∷ [])) (sym is) comes })
+        inr (state, asked ∷ [], record { says = does.says; opened = does.opened; opens = does.opens; comes = subst (λ (o : Outcome). ComesTo then a left_after o state (asked ∷ [])) (sym is) comes })
 
 -- ---- the causes of a run that came to no command
 
@@ -199,12 +216,12 @@ no_damage name (inl is) = absurd (cc)
 no_damage name (inr is) = is
 
 module _ (a : Asking) (single : AreRun a.words → ⊥) (stop : Stop) (why : ComesFirst stop) where
-  usage_first : (stop ≡ Usage → IsNoCommand a.words) → (IsNoCommand a.words → (stop ≡ Usage) ⊎ (stop ≡ Memory)) → UsageCause a.words (Some stop)
+  usage_first : (stop ≡ Usage → IsNoCommand a.words) → (IsNoCommand a.words → (stop ≡ Usage) ⊎ ((stop ≡ Memory) × HaveTerms a.words)) → UsageCause a.words (Some stop)
   usage_first usage none = (λ e. (usage (some_is stop Usage e), single), λ no. of_stop (none no.0))
     where
-      of_stop : (stop ≡ Usage) ⊎ (stop ≡ Memory) → (Some stop ≡ Some Usage) ⊎ (Some stop ≡ Some Memory)
+      of_stop : (stop ≡ Usage) ⊎ ((stop ≡ Memory) × HaveTerms a.words) → (Some stop ≡ Some Usage) ⊎ ((Some stop ≡ Some Memory) × HaveTerms a.words)
       of_stop (inl e) = inl (ap Some e)
-      of_stop (inr e) = inr (ap Some e)
+      of_stop (inr (e, terms)) = inr (ap Some e, terms)
 
   limit_first : (left_after : List ℕ) → (stop ≡ InputLimit → AwaitBody a.words) → (IsTrue a.tells → stop ≡ InputLimit → IsOverLimit a.left left_after) → LimitCause a left_after (Some stop)
   limit_first left_after read over = (
@@ -213,17 +230,17 @@ module _ (a : Asking) (single : AreRun a.words → ⊥) (stop : Stop) (why : Com
   )
 
   pub cause_first : (o : Outside) (outcome : Outcome) → outcome ≡ stopped_outcome 0 stop → (left_after : List ℕ) (faults faults_after : ℕ)
-      → (stop ≡ Usage → IsNoCommand a.words) → (IsNoCommand a.words → (stop ≡ Usage) ⊎ (stop ≡ Memory)) → (stop ≡ InputLimit → AwaitBody a.words)
+      → (stop ≡ Usage → IsNoCommand a.words) → (IsNoCommand a.words → (stop ≡ Usage) ⊎ ((stop ≡ Memory) × HaveTerms a.words)) → (stop ≡ InputLimit → AwaitBody a.words)
       → (IsTrue a.tells → stop ≡ InputLimit → IsOverLimit a.left left_after) → CountsFault (is_input_fault stop) faults faults_after
       → HasCause (change_of o o) a left_after faults faults_after outcome.stop
   cause_first o outcome is left_after faults faults_after usage none read over counts =
-      let ends : Ends (change_of o o) a (stopped_outcome 0 stop) = ends_first (change_of o o) a (stopped_outcome 0 stop) stop refl single why (no_change o) refl in
+      let ends : Ends (change_of o o) a left_after (stopped_outcome 0 stop) = ends_first (change_of o o) a left_after (stopped_outcome 0 stop) stop refl single why (no_change o) refl in
       let cause : HasCause (change_of o o) a left_after faults faults_after (Some stop) = record {
         usage = usage_first usage none;
         disk = subst (λ (b : Bool). CountsFault b o.disk_faults o.disk_faults) (sym (no_disk stop why)) refl;
         output = subst (λ (b : Bool). CountsFault b o.say_faults o.say_faults) (sym (no_output stop why)) refl;
         input = counts;
-        damaged = λ told. damaged_cause (change_of o o) a (stopped_outcome 0 stop) ends (λ name e. absurd (no_damage name (subst ComesFirst (some_is stop (Damaged name) e) why)));
+        damaged = λ told. damaged_cause (change_of o o) a left_after (stopped_outcome 0 stop) ends (λ name e. absurd (no_damage name (subst ComesFirst (some_is stop (Damaged name) e) why)));
         limit = limit_first left_after read over;
       } in
       subst (λ (out : Outcome). HasCause (change_of o o) a left_after faults faults_after out.stop) (sym is) cause
@@ -255,7 +272,7 @@ module _ (s : Change) (a : Asking) (single : AreRun a.words → ⊥) (command : 
 
   pub cause_stopped : (outcome : Outcome) (stop : Stop) → outcome ≡ stopped_outcome 0 stop → (IsReadingStop stop → ⊥)
       → CountsFault (is_disk_fault stop) s.before.disk_faults s.after.disk_faults → CountsFault (is_output_fault stop) s.before.say_faults s.after.say_faults
-      → (IsTrue s.before.tells_folder → Ends s a outcome) → (IsTrue s.before.tells_folder → (name : List ℕ) → stop ≡ Damaged name → IsFirstDamaged s.before.folder name)
+      → (IsHonest s.after → Ends s a left_after outcome) → (IsHonest s.after → (name : List ℕ) → stop ≡ Damaged name → IsFirstDamaged s.before.folder name)
       → HasCause s a left_after faults faults_after outcome.stop
   cause_stopped outcome stop is later disk output ends named =
       let cause : HasCause s a left_after faults faults_after (Some stop) = record {
@@ -263,13 +280,13 @@ module _ (s : Change) (a : Asking) (single : AreRun a.words → ⊥) (command : 
         disk = disk;
         output = output;
         input = input_read stop later;
-        damaged = λ told. damaged_cause s a (stopped_outcome 0 stop) (subst (λ (o : Outcome). Ends s a o) is (ends told)) (λ name e. named told name (some_is stop (Damaged name) e));
+        damaged = λ told. damaged_cause s a left_after (stopped_outcome 0 stop) (subst (λ (o : Outcome). Ends s a left_after o) is (ends told)) (λ name e. named told name (some_is stop (Damaged name) e));
         limit = limit_read (Some stop) (later_limit stop later);
       } in
       subst (λ (o : Outcome). HasCause s a left_after faults faults_after o.stop) (sym is) cause
 
   pub cause_answered : (outcome : Outcome) (refused : Bool) → outcome ≡ ended_outcome 1 refused
-      → s.after.disk_faults ≡ s.before.disk_faults → s.after.say_faults ≡ s.before.say_faults → (IsTrue s.before.tells_folder → Ends s a outcome)
+      → s.after.disk_faults ≡ s.before.disk_faults → s.after.say_faults ≡ s.before.say_faults → (IsHonest s.after → Ends s a left_after outcome)
       → HasCause s a left_after faults faults_after outcome.stop
   cause_answered outcome refused is disk output ends =
       let cause : HasCause s a left_after faults faults_after None = record {
@@ -277,7 +294,7 @@ module _ (s : Change) (a : Asking) (single : AreRun a.words → ⊥) (command : 
         disk = disk;
         output = output;
         input = quiet;
-        damaged = λ told. damaged_cause s a (ended_outcome 1 refused) (subst (λ (o : Outcome). Ends s a o) is (ends told)) (λ name e. absurd (cc));
+        damaged = λ told. damaged_cause s a left_after (ended_outcome 1 refused) (subst (λ (o : Outcome). Ends s a left_after o) is (ends told)) (λ name e. absurd (cc));
         limit = limit_read None (λ e. cc);
       } in
       subst (λ (o : Outcome). HasCause s a left_after faults faults_after o.stop) (sym is) cause

@@ -2,6 +2,8 @@
 use Rattle.std.specs.Prelude.{◌≡◌, ◌⊎◌, ℕ, ◌^◌, ◌≤◌, Bool, true, false, IsTrue, List, drop, length, Option, None, Some}
 use Rattle.ts_site.specs.Faults.{CountsFault}
 use Rattle.ts_site.specs.Folder.{Folder}
+use Rattle.ts_site.specs.Outside.{IsHonest}
+use Rattle.ts_script.specs.Heads.{HaveTerms}
 use Rattle.ts_store.specs.declared.stop.Stop.{Stop}
 use Rattle.ts_store.specs.declared.stop.Stop.TheVariants.{Usage, Damaged, DiskFault, InputFault, OutputFault, InputLimit, Memory}
 use Rattle.ts_store.specs.FolderSays.{IsFirstDamaged}
@@ -10,9 +12,9 @@ use Rattle.ts_cli.specs.Asked.{AreNoWords, AreRun, Asking, ReadInput}
 use Rattle.ts_cli.specs.Change.{Change}
 use Rattle.ts_cli.specs.Outcomes.{IsAfterReading}
 
--- usage exactly where the words are no command and not `run`, but for want of memory
+-- usage exactly where the words are no command and not `run`, but for want of memory for the terms that they name behind a REF
 abbrev pub UsageCause : List (List ℕ) → Option Stop → Type 0
-UsageCause words stop = (stop ≡ Some Usage → AreNoWords words) × (AreNoWords words → (stop ≡ Some Usage) ⊎ (stop ≡ Some Memory))
+UsageCause words stop = (stop ≡ Some Usage → AreNoWords words) × (AreNoWords words → (stop ≡ Some Usage) ⊎ ((stop ≡ Some Memory) × HaveTerms words))
 
 -- whether there is a stop that passes the test
 abbrev pub is_stop_and : (Stop → Bool) → Option Stop → Bool
@@ -57,5 +59,5 @@ pub record HasCause (s : Change) (a : Asking) (left_after : List ℕ) (faults fa
   pub disk : CountsFault (is_stop_and is_disk_fault stop) s.before.disk_faults s.after.disk_faults
   pub output : CountsFault (is_stop_and is_output_fault stop) s.before.say_faults s.after.say_faults
   pub input : CountsFault (is_stop_and is_input_fault stop) faults faults_after
-  pub damaged : IsTrue s.before.tells_folder → DamagedCause a.words s.before.folder stop
+  pub damaged : IsHonest s.after → DamagedCause a.words s.before.folder stop
   pub limit : LimitCause a left_after stop

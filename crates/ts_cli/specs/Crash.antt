@@ -9,7 +9,7 @@ use Rattle.ts_store.specs.Stands.{Stands}
 use Rattle.ts_store.specs.State.{State}
 use Rattle.ts_store.specs.Steps.{after, answer_at, answers}
 use Rattle.ts_cli.specs.declared.outcome.Outcome.{Outcome}
-use Rattle.ts_cli.specs.Ends.{IsUnsettled}
+use Rattle.ts_cli.specs.Ends.{IsUnsettled, LeavesUnsettled}
 
 -- a crash leaves a folder that stands for the state after so many commands, or after one more
 abbrev pub LeavesAfter : State → List Command → ℕ → CrashState → Type 0
@@ -30,14 +30,14 @@ pub record IsOpeningMoment (old : Outside) (moment : Moment) : Type 0 where
   pub told : moment.told ≡ old.told
   pub adds : AddsNone moment.crash old.crash
 
--- The run stopped before the folder was settled: no command was done, and at each moment and now a crash leaves what one before the
--- run might have left.
+-- The run stopped before the folder was settled: no command was done, and at each moment a crash leaves what one before the run might have
+-- left. Now it leaves what it left before; where the barrier failed, maybe just what reads.
 pub record StopsUnsettled (words : List (List ℕ)) (outcome : Outcome) (old new : Outside) : Type 0 where
   pub stop : Stop
   pub stops : outcome.stop ≡ Some stop
   pub unsettled : IsUnsettled words stop
   pub none : outcome.done ≡ 0
-  pub now : new.crash ≡ old.crash
+  pub now : LeavesUnsettled stop old new
   pub moments : GoesOn (IsOpeningMoment old) (moments_of old) (moments_of new)
 
 -- The folder was settled in the middle, when a crash leaves just what reads: the moments until then, and then those of the commands. Now

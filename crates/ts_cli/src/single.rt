@@ -1,12 +1,14 @@
 // A run of one command.
 ghost use Rattle.std.specs.Prelude.{◌≡◌, ◌⊎◌, ◌<◌, ◌^◌, ℕ, List, [], IsTrue, IfOk, IfErr, OnOk, length, map, string_bytes, true, false, Some, Err};
 ghost use Rattle.ts_site.specs.Faults.{CountsFault, is_err_and};
+ghost use Rattle.ts_site.specs.Outside.{Falls, IsHonest};
 ghost use Rattle.ts_script.specs.Commands.{AwaitBody, IsNoCommand};
+ghost use Rattle.ts_script.specs.Heads.{HaveTerms};
 ghost use Rattle.ts_script.specs.declared.command.Command.{Command};
 ghost use Rattle.ts_store.specs.FolderSays.{IsFirstDamaged};
-ghost use Rattle.ts_store.specs.Stops.{KeepsTelling, is_disk_fault, is_output_fault};
+ghost use Rattle.ts_store.specs.Stops.{is_disk_fault, is_output_fault, is_site_fault};
 ghost use Rattle.ts_cli.specs.Asked.{AreRun, Asks, ReadInput, asking};
-ghost use Rattle.ts_cli.specs.Causes.{HasCause, IsOverLimit, is_input_fault};
+ghost use Rattle.ts_cli.specs.Causes.{HasCause, IsOverLimit, is_input_fault, is_stop_and};
 ghost use Rattle.ts_cli.specs.Change.{change_of};
 ghost use Rattle.ts_cli.specs.Ends.{Ends};
 ghost use Rattle.ts_cli.specs.Outcomes.{HasStatus, IsAfterReading, IsReadingStop};
@@ -17,28 +19,26 @@ use crate::running::INPUT_LIMIT;
 use crate::tally::is_refused;
 use crate::{Outcome, Stop, stopped};
 use std::alloc::Global;
-use ts_script::{Command, LineCutter, ScriptStop, first_command};
+use ts_script::{Command, ScriptStop, first_command};
 use ts_site::{Disk, Site, Source};
 use ts_store::{Kind, Session};
 
 /// Reads the command of the words, with its body where it has one, to the end of the input.
 fn read_command<S: Source>(alloc: Global, words: &[String], input: &mut S) -> Result<Command, Stop>
-    ensures asks { IfOk result (Asks (asking (map string_bytes words.now) (S.tells input.old) (S.left input.old))) }
+    ensures asks { IfOk result (Asks (asking (map string_bytes words.now) (S.tells input.new) (S.left input.old))) }
     ensures usage { IfErr result (λ stop. stop ≡ Stop.Usage → IsNoCommand (map string_bytes words.now)) }
-    ensures no_command { IsNoCommand (map string_bytes words.now) → (result ≡ Err Stop.Usage) ⊎ (result ≡ Err Stop.Memory) }
+    ensures no_command { IsNoCommand (map string_bytes words.now) → (result ≡ Err Stop.Usage) ⊎ ((result ≡ Err Stop.Memory) × HaveTerms (map string_bytes words.now)) }
     ensures untouched { (AwaitBody (map string_bytes words.now) → ⊥) → input.new ≡ input.old }
-    ensures all { IsTrue (S.tells input.old) → AwaitBody (map string_bytes words.now) → OnOk result (S.left input.new ≡ []) }
-    ensures short { IsTrue (S.tells input.old) → AwaitBody (map string_bytes words.now) → OnOk result (length (S.left input.old) < 2 ^ 40) }
-    ensures limit { IsTrue (S.tells input.old) → IfErr result (λ stop. stop ≡ Stop.InputLimit → IsOverLimit (S.left input.old) (S.left input.new)) }
+    ensures all { IsTrue (S.tells input.new) → AwaitBody (map string_bytes words.now) → OnOk result (S.left input.new ≡ []) }
+    ensures short { IsTrue (S.tells input.new) → AwaitBody (map string_bytes words.now) → OnOk result (length (S.left input.old) < 2 ^ 40) }
+    ensures limit { IsTrue (S.tells input.new) → IfErr result (λ stop. stop ≡ Stop.InputLimit → IsOverLimit (S.left input.old) (S.left input.new)) }
     ensures reads { IfErr result (λ stop. stop ≡ Stop.InputLimit → AwaitBody (map string_bytes words.now)) }
     ensures why { IfErr result (λ stop. (stop ≡ Stop.Memory) ⊎ IsReadingStop stop) }
+    ensures input_last { IsTrue (is_err_and is_input_fault result) → IsTrue (S.failed_last input.new) }
     ensures counts { CountsFault (is_err_and is_input_fault result) (S.faults input.old) (S.faults input.new) }
-    ensures tells { S.tells input.new ≡ S.tells input.old }
+    ensures tells { IsTrue (S.tells input.new) → IsTrue (S.tells input.old) }
 {
-    let Ok(mut cutter) = LineCutter::new(alloc, INPUT_LIMIT) else {
-        return Err(Stop::Memory);
-    };
-    match first_command(alloc, words, &mut cutter, input) {
+    match first_command(alloc, words, INPUT_LIMIT, input) {
         Ok(Some(command)) => Ok(command),
         Ok(None) => Err(Stop::Usage),
         Err(ScriptStop::Fault) => Err(Stop::InputFault),
@@ -49,11 +49,12 @@ fn read_command<S: Source>(alloc: Global, words: &[String], input: &mut S) -> Re
 
 /// Opens the folder, and does the step of a command.
 fn step<W: Site>(alloc: Global, site: &mut W, command: &Command) -> Result<Kind, Stop>
-    ensures ends { IsTrue (W.outside site.old).tells_folder → ComesToStep (change_of (W.outside site.old) (W.outside site.new)) command.now result }
-    ensures damaged { IsTrue (W.outside site.old).tells_folder
+    ensures ends { IsHonest (W.outside site.new) → ComesToStep (change_of (W.outside site.old) (W.outside site.new)) command.now result }
+    ensures damaged { IsHonest (W.outside site.new)
         → IfErr result (λ stop. (name : List ℕ) → stop ≡ Stop.Damaged name → IsFirstDamaged (W.outside site.old).folder name) }
     ensures why { IfErr result (λ stop. IsReadingStop stop → ⊥) }
-    ensures tells { KeepsTelling (W.outside site.old) (W.outside site.new) }
+    ensures site_last { IsTrue (is_err_and is_site_fault result) → IsTrue (W.outside site.new).failed_last }
+    ensures tells { Falls (W.outside site.old) (W.outside site.new) }
     ensures disk { CountsFault (is_err_and is_disk_fault result) (W.outside site.old).disk_faults (W.outside site.new).disk_faults }
     ensures output { CountsFault (is_err_and is_output_fault result) (W.outside site.old).say_faults (W.outside site.new).say_faults }
 {
@@ -69,17 +70,19 @@ pub(crate) fn run_command<W: Site, S: Source>(
     input: &mut S,
 ) -> Outcome
     requires { AreRun (map string_bytes words.now) → ⊥ }
-    ensures ends { IsTrue (W.outside site.old).tells_folder
-        → Ends (change_of (W.outside site.old) (W.outside site.new)) (asking (map string_bytes words.now) (S.tells input.old) (S.left input.old)) result }
-    ensures causes { HasCause (change_of (W.outside site.old) (W.outside site.new)) (asking (map string_bytes words.now) (S.tells input.old) (S.left input.old))
+    ensures ends { IsHonest (W.outside site.new)
+        → Ends (change_of (W.outside site.old) (W.outside site.new)) (asking (map string_bytes words.now) (S.tells input.new) (S.left input.old)) (S.left input.new) result }
+    ensures causes { HasCause (change_of (W.outside site.old) (W.outside site.new)) (asking (map string_bytes words.now) (S.tells input.new) (S.left input.old))
         (S.left input.new) (S.faults input.old) (S.faults input.new) result.stop }
     ensures status { HasStatus (map string_bytes words.now) result }
     ensures untouched { IsNoCommand (map string_bytes words.now) → (site.new ≡ site.old) × (input.new ≡ input.old) }
     ensures read_first { (stop : Stop) → result.stop ≡ Some stop → IsReadingStop stop → site.new ≡ site.old }
-    ensures read_all { IsTrue (S.tells input.old) → ReadInput (map string_bytes words.now) → IsAfterReading (map string_bytes words.now) result.stop
+    ensures read_all { IsTrue (S.tells input.new) → ReadInput (map string_bytes words.now) → IsAfterReading (map string_bytes words.now) result.stop
         → S.left input.new ≡ [] }
     ensures unread { (ReadInput (map string_bytes words.now) → ⊥) → input.new ≡ input.old }
-    ensures tells { KeepsTelling (W.outside site.old) (W.outside site.new) × (S.tells input.new ≡ S.tells input.old) }
+    ensures site_last { IsTrue (is_stop_and is_site_fault result.stop) → IsTrue (W.outside site.new).failed_last }
+    ensures input_last { IsTrue (is_stop_and is_input_fault result.stop) → IsTrue (S.failed_last input.new) }
+    ensures tells { Falls (W.outside site.old) (W.outside site.new) × (IsTrue (S.tells input.new) → IsTrue (S.tells input.old)) }
 {
     match read_command(alloc, words, input) {
         Err(stop) => stopped(stop),

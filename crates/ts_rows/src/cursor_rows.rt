@@ -27,6 +27,14 @@ const ROWS: &[Row<'static>] = &[
         ..SCRIPT
     },
     Row {
+        name: "six words open a cursor in a run of their own",
+        words: &["open", "c", "00000001", "<a>", "*", "<b>"],
+        before: &[("00000001.layer", "plain 00000001 none\n+ <a> <p> <b> .\n")],
+        output: "cursor c open\n",
+        done: 1,
+        ..SCRIPT
+    },
+    Row {
         name: "exactly as many as are left are no end",
         input: "base\n<a> <p> <b> .\n<c> <p> <d> .\nend\nopen c last * * *\nfetch c 2\nfetch c 1\n",
         output: "layer 00000001\ncursor c open\n<a> <p> <b> .\n<c> <p> <d> .\nmore\nend\n",

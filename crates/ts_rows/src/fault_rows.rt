@@ -67,6 +67,16 @@ const ROWS: &[Row<'static>] = &[
         ..SCRIPT
     },
     Row {
+        name: "an output that fails before the input would",
+        input: "layers\nlayers\n",
+        piece: 2,
+        take: 5,
+        fault: Some((CallKind::Say, 1, FaultKind::Nothing)),
+        status: 6,
+        stop: "tstore: output fault\n",
+        ..SCRIPT
+    },
+    Row {
         name: "a second rename that fails and changes nothing",
         input: TWO_LAYERS,
         fault: Some((CallKind::Rename, 2, FaultKind::Nothing)),

@@ -1,5 +1,5 @@
 //! Worked runs of the program, as tables: words, an input and a folder, and what is told and left. The tests play each of them over a
-//! folder in memory. There is no code here that is called from elsewhere.
+//! folder in memory, by [`run_in_memory`], whose contract is that of a run without premises of the folder and the input.
 #![tactic(auto)]
 
 #[cfg(test)]
@@ -10,6 +10,7 @@ mod crash_rows;
 mod cursor_rows;
 #[cfg(test)]
 mod fault_rows;
+mod in_memory;
 #[cfg(test)]
 mod label_rows;
 #[cfg(test)]
@@ -20,3 +21,5 @@ mod long_lines;
 mod row;
 #[cfg(test)]
 mod script_rows;
+
+pub use in_memory::run_in_memory;

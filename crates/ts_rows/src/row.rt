@@ -1,7 +1,8 @@
 // A worked run, and how it is played.
+use crate::run_in_memory;
 use std::alloc::Global;
 use std::test::Fail;
-use ts_cli::{Outcome, run, stop_line};
+use ts_cli::{Outcome, stop_line};
 use ts_site::{CallKind, FaultKind, FileName, MemorySite, MemorySource};
 
 /// A worked run: what is given, and what is wanted.
@@ -78,7 +79,7 @@ pub fn run_words(
     for word in words {
         all.push(String::from_str(alloc, word)?)?;
     }
-    Ok(run(alloc, &all, site, input))
+    Ok(run_in_memory(alloc, &all, site, input))
 }
 
 /// Whether the stop is the one whose line this is.

@@ -1,15 +1,17 @@
 -- The body of a command of a script, as far as it was read.
 use Rattle.std.proofs.Common.{◌≡◌, ◌↔◌, ℕ, ◌+◌, Bool, true, false, true≢false, List, [], ◌∷◌, ◌++◌, length, map, refl, sym, ◌∙◌, ap, arith, append_assoc, append-nil, length-append}
-use Rattle.std.specs.Prelude.{Option, Result, IsTrue}
+use Rattle.std.specs.Prelude.{Option, Result, Ok, Err, IfErr, IsErrAnd, IsTrue}
 use Rattle.ts_model.specs.declared.signed.SignedTriple.{SignedTriple}
 use Rattle.ts_script.specs.Body.{IsBodyRead, IsFaultOf}
-use Rattle.ts_script.specs.Cutting.{lines_to_come, view_of, GivesLine, HasSeenAll}
+use Rattle.ts_script.specs.Cutting.{lines_to_come, view_of, GivesLine, HasNoWholeLine, HasSeenAll}
 use Rattle.ts_script.specs.Lines.{LineView, line_view}
-use Rattle.ts_script.specs.Next.{GivesBody, ReadsBody}
+use Rattle.ts_script.specs.Next.{GivesBody, ReadsBody, WaitsForEnd}
 use Rattle.ts_script.specs.ScriptBody.{AreAll, EndsBody, GoesOn}
 use Rattle.ts_script.specs.declared.body.BodyFault.{BodyFault}
 use Rattle.ts_script.specs.declared.cutter.Line.{Line}
 use Rattle.ts_script.specs.declared.cutter.LineCutter.{LineCutter}
+use Rattle.ts_script.specs.declared.stop.ScriptStop.{ScriptStop}
+use Rattle.ts_script.specs.declared.stop.ScriptStop.TheVariants.{Memory}
 use Rattle.ts_script.proofs.BodySoFar.{map-none, next_of-some}
 use Rattle.ts_script.proofs.ScriptSoFar.{all-more, split}
 
@@ -89,14 +91,15 @@ body-closed start cur new left_start left_cur left_new body fault read line so_f
       to_come = cut.to_come;
       number = omega (arith, number, was.number, length-append was.done (cut.first ∷ []));
       seen = seen;
+      closed = λ unended. refl;
     }
 
 -- the lines end within the body
 pub body-open : (start cur new : LineCutter) (left_start left_cur left_new : List ℕ) (body : List SignedTriple) (fault : Option BodyFault)
     (read : Result (List SignedTriple) BodyFault) → AreBodySoFar start left_start cur left_cur body fault
-    → lines_to_come cur left_cur ≡ [] → lines_to_come new [] ≡ [] → new.number ≡ cur.number → left_new ≡ [] → ReadsAs body fault read
+    → lines_to_come cur left_cur ≡ [] → lines_to_come new [] ≡ [] → new.number ≡ cur.number → new.has_ended ≡ true → left_new ≡ [] → ReadsAs body fault read
     → (lines : List (List ℕ)) → lines_to_come start left_start ≡ map line_view lines → GivesBody start new left_new lines read false
-body-open start cur new left_start left_cur left_new body fault read so_far none after number nothing reads lines is =
+body-open start cur new left_start left_cur left_new body fault read so_far none after number ended nothing reads lines is =
     let was = so_far lines is in
     let no_rest : was.rest ≡ [] = map-none was.rest (sym was.to_come ∙ none) in
     record {
@@ -114,7 +117,24 @@ body-open start cur new left_start left_cur left_new body fault read so_far none
       to_come = ap (lines_to_come new) nothing ∙ after;
       number = number ∙ was.number;
       seen = λ _. nothing;
+      closed = λ unended. absurd (true≢false (sym ended ∙ unended));
     }
+
+-- no whole line is left, and none that was given ends the body
+pub body-waits : (start cur new : LineCutter) (left_start left_cur : List ℕ) (body : List SignedTriple) (fault : Option BodyFault) → AreBodySoFar start left_start cur left_cur body fault
+    → new.number ≡ cur.number → HasNoWholeLine new → new.has_ended ≡ false → (lines : List (List ℕ)) → lines_to_come start left_start ≡ map line_view lines → WaitsForEnd start new lines
+body-waits start cur new left_start left_cur body fault so_far number waits unended lines is =
+    let was = so_far lines is in
+    record { given = was.done; rest = was.rest; all = was.parts; goes_on = was.goes_on; number = number ∙ was.number; waits = waits; unended = unended }
+
+-- what holds at each stop but want of memory
+pub stop-waits : {A : Type 0} (r : Result A ScriptStop) (fact : Type 0) → fact → IfErr r (λ stop. (stop ≡ Memory → ⊥) → fact)
+stop-waits (Ok x) fact holds = tt
+stop-waits (Err stop) fact holds = λ _. holds
+
+pub waits-passed : {A : Type 0} (r : Result A ScriptStop) (stop : ScriptStop) (fact : Type 0) → IsErrAnd r (λ given. given ≡ stop) → ((stop ≡ Memory → ⊥) → fact) → IfErr r (λ given. (given ≡ Memory → ⊥) → fact)
+waits-passed (Ok x) stop fact same waits = tt
+waits-passed (Err given) stop fact same waits = λ not. waits (λ is. not (same ∙ is))
 
 -- ---- on every source
 

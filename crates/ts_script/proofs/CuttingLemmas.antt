@@ -1,7 +1,8 @@
 -- What several calls on a cutter make together.
-use Rattle.std.proofs.Common.{◌≡◌, ◌+◌, length, ℕ, Bool, true, false, refl, List, [], ◌∷◌, ◌++◌, sym, ◌∙◌, ap, arith, inl, inr, append_assoc, append-nil, length-append}
+use Rattle.std.proofs.Common.{◌≡◌, ◌<◌, ◌≤◌, drop, length, ℕ, Bool, true, false, true≢false, refl, List, [], ◌∷◌, ◌++◌, sym, ◌∙◌, ap, arith, inl, inr, append_assoc, append-nil, length-append}
 use Rattle.ts_script.specs.Lines.{LineView}
-use Rattle.ts_script.specs.Cutting.{lines_to_come, next_offset, offset_behind, end_behind, MeansSame, GivesWhole, GivesLine, HasEnded, Takes, Took, IsNext}
+use Rattle.std.proofs.Math.Seq.{drop-append_seam}
+use Rattle.ts_script.specs.Cutting.{lines_to_come, next_offset, offset_behind, end_behind, progress, MeansSame, GivesWhole, GivesLine, HasEnded, IsFresh, Takes, Took, IsNext}
 use Rattle.ts_script.specs.declared.cutter.LineCutter.{LineCutter}
 use Rattle.ts_script.proofs.OffsetLemmas.{offset-here, offset-rises}
 
@@ -101,11 +102,62 @@ pub next-none : (cur new : LineCutter) (bytes left rest : List ℕ) → HasEnded
 next-none cur new bytes left rest gives whole ended =
     ap (lines_to_come cur) (whole ∙ ap (λ (t : List ℕ). bytes ++ t) ended ∙ append-nil bytes) ∙ gives.none
 
-pub took-took : (a b c : LineCutter) (xs ys : List ℕ) → Took a b xs → c.taken ≡ b.taken + length ys → c.limit ≡ b.limit → Took a c (xs ++ ys)
-took-took a b c xs ys first taken limit = record {
-  taken = omega (arith, first.taken, taken, length-append xs ys);
-  limit = limit ∙ first.limit;
+-- ---- what was taken
+
+pub took-nothing : (a : LineCutter) → Took a a []
+took-nothing a = record { taken = omega arith; limit = refl; given = []; number = omega arith; lines = λ unended more. refl; ended = λ is. is }
+
+pub unended-before : (before after : Bool) → (before ≡ true → after ≡ true) → after ≡ false → before ≡ false
+unended-before true after ended is = absurd (true≢false (sym (ended refl) ∙ is))
+unended-before false after ended is = refl
+
+pub took-took : (a b c : LineCutter) (xs ys : List ℕ) → Took a b xs → Took b c ys → Took a c (xs ++ ys)
+took-took a b c xs ys first second = record {
+  taken = omega (arith, first.taken, second.taken, length-append xs ys);
+  limit = second.limit ∙ first.limit;
+  given = first.given ++ second.given;
+  number = omega (arith, first.number, second.number, length-append first.given second.given);
+  lines = λ unended more.
+      ap (lines_to_come a) (append_assoc xs ys more) ∙ first.lines (unended-before b.has_ended c.has_ended second.ended unended) (ys ++ more)
+      ∙ ap (λ (ls : List LineView). first.given ++ ls) (second.lines unended more) ∙ sym (append_assoc first.given second.given (lines_to_come c more));
+  ended = λ is. second.ended (first.ended is);
 }
+
+pub took-line : (a b c : LineCutter) (xs ys : List ℕ) (line : LineView) → Took a b xs → GivesLine b c ys line → Took a c (xs ++ ys)
+took-line a b c xs ys line first gives =
+    took-took a b c xs ys first (record { taken = gives.taken; limit = gives.limit; given = line ∷ []; number = gives.number; lines = λ unended more. next unended gives.next more; ended = gives.ended })
+  where
+    next : c.has_ended ≡ false → IsNext b c ys line → (more : List ℕ) → lines_to_come b (ys ++ more) ≡ line ∷ lines_to_come c more
+    next unended (inl is) more = is more
+    next unended (inr last) more = absurd (true≢false (sym last.0 ∙ unended))
+
+pub took-end : (a b c : LineCutter) (xs ys : List ℕ) → Took a b xs → HasEnded b c ys → Took a c (xs ++ ys)
+took-end a b c xs ys first ends =
+    took-took a b c xs ys first
+    (record { taken = ends.taken; limit = ends.limit; given = []; number = omega (arith, ends.number); lines = λ unended more. absurd (true≢false (sym ends.ended ∙ unended)); ended = λ is. ends.ended })
+
+pub took-bytes : (a b c : LineCutter) (xs ys : List ℕ) → Took a b xs → Takes b c ys → Took a c (xs ++ ys)
+took-bytes a b c xs ys first takes =
+    took-took a b c xs ys first
+    (record { taken = takes.taken; limit = takes.limit; given = []; number = omega (arith, takes.number); lines = λ unended more. sym (takes.lines more); ended = takes.ended })
+
+-- as many bytes as the limit allows were taken of what was left
+pub over_limit : (old new : LineCutter) (most : ℕ) (bytes left rest : List ℕ) → IsFresh old most → Took old new bytes → (progress new).taken ≡ (progress new).limit → left ≡ bytes ++ rest
+    → (most ≤ length left) × (rest ≡ drop most left)
+over_limit old new most bytes left rest fresh took full whole =
+    let long : length bytes ≡ most = omega (arith, fresh.limit, fresh.taken, took.taken, took.limit, full) in
+    (omega (arith, long, length-append bytes rest, ap length whole), sym (drop-append_seam bytes rest) ∙ ap (λ (n : ℕ). drop n (bytes ++ rest)) long ∙ ap (drop most) (sym whole))
+
+-- fewer bytes than that were taken, and they are all that was left
+pub below_limit : (old new : LineCutter) (most : ℕ) (bytes left rest : List ℕ) → IsFresh old most → Took old new bytes → (progress new).taken < (progress new).limit → left ≡ bytes ++ rest → rest ≡ []
+    → length left < most
+below_limit old new most bytes left rest fresh took short whole none =
+    omega (arith, fresh.limit, fresh.taken, took.taken, took.limit, short, length-append bytes rest, ap length whole, ap length none)
+
+pub within_limit : (old new : LineCutter) (most : ℕ) (bytes : List ℕ) → IsFresh old most → Took old new bytes → length bytes ≤ most
+within_limit old new most bytes fresh took =
+    let within = new.within in
+    omega (arith, within, fresh.limit, fresh.taken, took.taken, took.limit)
 
 second_nil : (xs ys : List ℕ) → [] ≡ xs ++ ys → ys ≡ []
 second_nil [] ys e = sym e

@@ -9,6 +9,7 @@ pub mod EndLemmas
 pub mod HeadLaws
 pub mod HeadLemmas
 pub mod HeadWords
+pub mod LabelLaws
 pub mod LineWordLemmas
 pub mod LinesLemmas
 pub mod NextLemmas
@@ -19,4 +20,6 @@ pub mod ScriptFronts
 pub mod ScriptLaws
 pub mod ScriptSoFar
 pub mod SilentLines
+pub mod SomeScript
+pub mod WholeLemmas
 pub mod WordLemmas

@@ -3,9 +3,9 @@ use Rattle.std.proofs.Common.{◌≡◌, ◌⊎◌, ℕ, ◌+◌, Bool, true, fa
 use Rattle.std.specs.Prelude.{Result, Ok, Err, IfErr}
 use Rattle.ts_model.specs.declared.signed.SignedTriple.{SignedTriple}
 use Rattle.ts_script.specs.Body.{IsBodyRead}
-use Rattle.ts_script.specs.Cutting.{lines_to_come, view_of, GivesLine, HasSeenAll}
+use Rattle.ts_script.specs.Cutting.{lines_to_come, view_of, GivesLine, HasNoWholeLine, HasSeenAll}
 use Rattle.ts_script.specs.Lines.{LineView, line_view}
-use Rattle.ts_script.specs.Next.{GivesBody, GivesCommand, ReadsBody}
+use Rattle.ts_script.specs.Next.{GivesBody, GivesCommand, ReadsBody, WaitsForEnd, WaitsForMore}
 use Rattle.ts_script.specs.Script.{closed, IsFinished, IsGiven, IsNextCommand, IsPassedOver, LineIs, WantMemory}
 use Rattle.ts_script.specs.Commands.{AwaitBody}
 use Rattle.ts_script.specs.Heads.{HaveTerms}
@@ -24,6 +24,7 @@ use Rattle.ts_script.specs.declared.script_line.ScriptLine.{ScriptLine}
 use Rattle.ts_script.specs.declared.script_line.ScriptLine.TheVariants.{Heads}
 use Rattle.ts_script.proofs.BodySoFar.{map-none, next_of-some}
 use Rattle.ts_script.proofs.ScriptSoFar.{AreUpTo, HaveRead, split}
+use Rattle.ts_script.proofs.WholeLemmas.{body_waits, over_waits, whole_body, whole_line}
 
 -- what a line, as it is lent, is
 abbrev pub SeenAs : LineView → ScriptLine → Type 0
@@ -58,6 +59,7 @@ gives-line start cur new left_start left_cur left_new line kind asked so_far nex
       to_come = cut.to_come;
       number = omega (arith, number, was.number, length-append was.done (cut.first ∷ []));
       seen = all;
+      whole = λ unended. whole_line start.number was.done cut.first was.have asked kind (seen cut.first cut.seen) (λ rest. subst (λ (n : ℕ). IsGiven kind n [] rest asked) place (given rest));
     }
 
 -- a line and a body
@@ -98,6 +100,37 @@ gives-body start cur mid new left_start left_cur left_mid left_new line opening 
       to_come = body.to_come;
       number = omega (arith, count, before, length-append was.done (cut.first ∷ body.taken));
       seen = body.seen;
+      whole = λ unended.
+          whole_body start.number was.done cut.first was.have asked opening body.taken body.rest read is_closed (seen cut.first cut.seen) (body.closed unended)
+          (subst (λ (n : ℕ). IsBodyUpTo n body.taken body.rest read is_closed) before body.is) (says ∙ ap (λ (n : ℕ). closed opening n is_closed read) place);
+    }
+
+-- the lines that were given are passed over, and no whole one is left
+pub waits-between : (start cur new : LineCutter) (left_start left_cur : List ℕ) → AreUpTo IsPassedOver start left_start cur left_cur → new.number ≡ cur.number → HasNoWholeLine new → new.has_ended ≡ false
+    → (lines : List (List ℕ)) → lines_to_come start left_start ≡ map line_view lines → WaitsForMore start new lines
+waits-between start cur new left_start left_cur so_far number waits unended lines is =
+    let was = so_far lines is in
+    record { given = was.done; rest = was.rest; all = was.parts; none = over_waits start.number was.done was.have; number = number ∙ was.number; waits = waits; unended = unended }
+
+-- or one of them awaits a body, and none behind it ends that
+pub waits-body : (start cur mid new : LineCutter) (left_start left_cur left_mid : List ℕ) (line : LineView) (opening : Opening)
+    → AreUpTo IsPassedOver start left_start cur left_cur → lines_to_come cur left_cur ≡ line ∷ lines_to_come mid left_mid → mid.number ≡ cur.number + 1 → SeenAs line (Heads (Awaits opening))
+    → ((lines : List (List ℕ)) → lines_to_come mid left_mid ≡ map line_view lines → WaitsForEnd mid new lines)
+    → (lines : List (List ℕ)) → lines_to_come start left_start ≡ map line_view lines → WaitsForMore start new lines
+waits-body start cur mid new left_start left_cur left_mid line opening so_far next number seen bodies lines is =
+    let was = so_far lines is in
+    let cut = split cur mid left_cur left_mid was.rest line was.to_come next in
+    let body = bodies cut.others cut.to_come in
+    let count : new.number ≡ mid.number + length body.given = body.number in
+    record {
+      given = was.done ++ cut.first ∷ body.given;
+      rest = body.rest;
+      all = was.parts ∙ ap (λ (ls : List (List ℕ)). was.done ++ ls) (cut.parts ∙ ap (λ (ls : List (List ℕ)). cut.first ∷ ls) body.all)
+          ∙ sym (append_assoc was.done (cut.first ∷ body.given) body.rest);
+      none = body_waits start.number was.done cut.first opening body.given was.have (seen cut.first cut.seen) body.goes_on;
+      number = omega (arith, count, number, was.number, length-append was.done (cut.first ∷ body.given));
+      waits = body.waits;
+      unended = body.unended;
     }
 
 -- no line is left

@@ -138,10 +138,11 @@ pub record IsAtLimit (c : LineCutter) : Type 0 where
   pub waits : HasNoWholeLine c
   pub unended : (progress c).has_ended ≡ false
 
--- these bytes were taken, no whole line is left, and none is given
+-- these bytes were taken, no whole line is left, none is given, and the end wasn't seen
 pub record IsStopped (old new : LineCutter) (bytes : List ℕ) (stop : InputStop) : Type 0 where
   pub takes : Takes old new bytes
   pub waits : HasNoWholeLine new
+  pub unended : (progress new).has_ended ≡ false
   pub limited : stop ≡ Limit → IsAtLimit new
 
 -- what the call gives once these bytes were taken
@@ -158,10 +159,15 @@ pub record IsFresh (c : LineCutter) (most : ℕ) : Type 0 where
   pub number : (progress c).lines ≡ 0
   pub has_ended : (progress c).has_ended ≡ false
 
--- these bytes were taken, and the limit stays
+-- These bytes were taken, and the limit stays. Of the lines to come the first were given, whatever follows these bytes, unless the end
+-- was seen.
 pub record Took (old new : LineCutter) (bytes : List ℕ) : Type 0 where
   pub taken : (progress new).taken ≡ (progress old).taken + length bytes
   pub limit : (progress new).limit ≡ (progress old).limit
+  pub given : List LineView
+  pub number : (progress new).lines ≡ (progress old).lines + length given
+  pub lines : (progress new).has_ended ≡ false → (more : List ℕ) → lines_to_come old (bytes ++ more) ≡ given ++ lines_to_come new more
+  pub ended : (progress old).has_ended ≡ true → (progress new).has_ended ≡ true
 
 -- where the end was seen, nothing is left
 abbrev pub HasSeenAll : LineCutter → List ℕ → Type 0

@@ -33,6 +33,22 @@ lines_after after_return (b ∷ text) =
 abbrev pub lines_of : List ℕ → List (List ℕ)
 lines_of text = lines_after false text
 
+-- a byte before the first line, where there is one
+abbrev pub onto_some : ℕ → List (List ℕ) → List (List ℕ)
+onto_some b [] = []
+onto_some b (line ∷ lines) = (b ∷ line) ∷ lines
+
+-- The lines that end in a text: not the bytes behind its last end.
+unfoldable pub whole_lines_after : Bool → List ℕ → List (List ℕ)
+whole_lines_after after_return [] = []
+whole_lines_after after_return (b ∷ text) =
+    if b == 13 then [] ∷ whole_lines_after true text
+    else if b == 10 then (if after_return then whole_lines_after false text else [] ∷ whole_lines_after false text)
+    else onto_some b (whole_lines_after false text)
+
+abbrev pub whole_lines : List ℕ → List (List ℕ)
+whole_lines text = whole_lines_after false text
+
 -- a line feed at the front, which belongs to the end that a return began
 abbrev pub feed_of : Bool → List ℕ → ℕ
 feed_of false text = 0
@@ -78,6 +94,15 @@ lines-example = refl
 lines-ended : lines_of (97 ∷ 13 ∷ 10 ∷ []) ≡ (97 ∷ []) ∷ []
 unfolding lines_after
 lines-ended = refl
+
+-- a line is whole once the first byte of its end stands there; `c` isn't
+lines-whole : whole_lines (97 ∷ 98 ∷ 10 ∷ 13 ∷ 10 ∷ 99 ∷ []) ≡ (97 ∷ 98 ∷ []) ∷ [] ∷ []
+unfolding whole_lines_after
+lines-whole = refl
+
+lines-return : whole_lines (97 ∷ 13 ∷ []) ≡ (97 ∷ []) ∷ []
+unfolding whole_lines_after
+lines-return = refl
 
 -- the line feed of the end before, `a`, and both bytes of its end
 first_length-example : first_length true (10 ∷ 97 ∷ 13 ∷ 10 ∷ 98 ∷ []) ≡ 4

@@ -65,6 +65,14 @@ pub record IsNextCommand (before : ℕ) (lines : List (List ℕ)) (asked : Comma
   pub is : LineIs line kind
   pub given : IsGiven kind (before + length passed + 1) behind rest asked
 
+-- the lines are this command, with the lines before it that are passed over, whatever follows them
+abbrev pub IsWholeCommand : ℕ → List (List ℕ) → Command → Type 0
+IsWholeCommand before taken asked = (behind : List (List ℕ)) → IsNextCommand before (taken ++ behind) asked taken behind
+
+-- the lines don't begin with a whole command
+abbrev pub HasNoWholeCommand : ℕ → List (List ℕ) → Type 0
+HasNoWholeCommand before lines = (asked : Command) (taken rest : List (List ℕ)) → lines ≡ taken ++ rest → IsWholeCommand before taken asked → ⊥
+
 -- the first of the lines that isn't passed over names terms, or awaits a body
 pub record WantMemory (lines : List (List ℕ)) : Type 0 where
   pub passed : List (List ℕ)
@@ -90,3 +98,10 @@ IsFinished asked = (line : ℕ) → asked ≡ command.Unfinished line → ⊥
 abbrev pub AreFinished : List Command → Type 0
 AreFinished [] = Unit {0}
 AreFinished (asked ∷ commands) = IsFinished asked × AreFinished commands
+
+-- These commands stand whole in the lines, one after another, and no other one behind them. So nothing that follows the lines changes a
+-- command that they have, and a body that goes on isn't one.
+abbrev pub AreWholeCommands : ℕ → List (List ℕ) → List Command → Type 0
+AreWholeCommands before lines [] = HasNoWholeCommand before lines
+AreWholeCommands before lines (asked ∷ commands) =
+    (taken rest : List (List ℕ)) × (lines ≡ taken ++ rest) × IsWholeCommand before taken asked × AreWholeCommands (before + length taken) rest commands

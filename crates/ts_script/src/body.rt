@@ -84,13 +84,14 @@ pub(crate) fn read_body<S: Source>(
     cutter: &mut LineCutter,
     input: &mut S,
 ) -> Result<Result<Body, BodyFault>, ScriptStop>
-    ensures body { IsTrue (S.tells input.old) → HasSeenAll cutter.old (S.left input.old) → (lines : List (List ℕ)) → lines_to_come cutter.old (S.left input.old) ≡ map line_view lines
+    ensures body { IsTrue (S.tells input.new) → HasSeenAll cutter.old (S.left input.old) → (lines : List (List ℕ)) → lines_to_come cutter.old (S.left input.old) ≡ map line_view lines
         → IfOk result (IsBodyRead (progress cutter.old).lines lines) }
     ensures some { IfOk result (λ read. (lines : List (List ℕ)) × IsBodyRead (progress cutter.old).lines lines read) }
-    ensures all { IsTrue (S.tells input.old) → HasSeenAll cutter.old (S.left input.old) → OnOk result (S.left input.new ≡ []) }
+    ensures all { IsTrue (S.tells input.new) → HasSeenAll cutter.old (S.left input.old) → OnOk result (S.left input.new ≡ []) }
     ensures taken { Tells (S.tells input.old) (S.tells input.new) ((bytes : List ℕ) × Took cutter.old cutter.new bytes × (S.left input.old ≡ bytes ++ S.left input.new)) }
     ensures short { OnOk result ((progress cutter.new).taken < (progress cutter.new).limit) }
     ensures limited { IfErr result (λ stop. stop ≡ ScriptStop.Limit → IsAtLimit cutter.new) }
+    ensures last { IsTrue (is_err_and is_script_fault result) → IsTrue (S.failed_last input.new) }
     ensures counts { CountsFault (is_err_and is_script_fault result) (S.faults input.old) (S.faults input.new) }
 {
     let mut body = BodySoFar::new(alloc);

@@ -122,6 +122,7 @@ fn take_at<S: Source>(
     ensures within { IfOk result (λ n. n ≤ most) }
     ensures taken { Tells (S.tells input.old) (S.tells input.new)
         (MatchResult result (λ n. TakesBytes n (S.left input.old) (S.left input.new) (drop at room.new)) (λ _. S.left input.new ≡ S.left input.old)) }
+    ensures last { S.failed_last input.new ≡ is_err result }
     ensures counts { CountsFault (is_err result) (S.faults input.old) (S.faults input.new) }
 {
     let window = &mut room[at..at + most];
@@ -143,6 +144,7 @@ fn take_into<S: Source>(
     ensures within { IfOk result (λ n. n ≤ most) }
     ensures taken { Tells (S.tells input.old) (S.tells input.new)
         (MatchResult result (λ n. TakesBytes n (S.left input.old) (S.left input.new) (drop at buffer.new.items)) (λ _. S.left input.new ≡ S.left input.old)) }
+    ensures last { S.failed_last input.new ≡ is_err result }
     ensures counts { CountsFault (is_err result) (S.faults input.old) (S.faults input.new) }
 {
     take_at(input, buffer, at, most)
@@ -350,7 +352,8 @@ impl LineCutter {
         requires open { self.old.has_ended ≡ false }
         ensures takes { (bytes : List ℕ) × Fills self.old self.new bytes result
             × Tells (S.tells input.old) (S.tells input.new) (S.left input.old ≡ bytes ++ S.left input.new) }
-        ensures ended { self.new.has_ended ≡ true → IsTrue (S.tells input.old) → S.left input.new ≡ [] }
+        ensures ended { self.new.has_ended ≡ true → IsTrue (S.tells input.new) → S.left input.new ≡ [] }
+        ensures last { IsTrue (is_err_and is_input_fault result) → IsTrue (S.failed_last input.new) }
         ensures counts { CountsFault (is_err_and is_input_fault result) (S.faults input.old) (S.faults input.new) }
     {
         self.make_room();
@@ -373,9 +376,10 @@ impl LineCutter {
     fn advance<S: Source>(&mut self, input: &mut S) -> Result<Option<Span>, InputStop>
         ensures next { (bytes : List ℕ) × NextIs (view_at self.new) self.old self.new bytes result
             × Tells (S.tells input.old) (S.tells input.new) (S.left input.old ≡ bytes ++ S.left input.new) }
-        ensures ended { self.old.has_ended ≡ false → self.new.has_ended ≡ true → IsTrue (S.tells input.old) → S.left input.new ≡ [] }
+        ensures ended { self.old.has_ended ≡ false → self.new.has_ended ≡ true → IsTrue (S.tells input.new) → S.left input.new ≡ [] }
         ensures closed { self.old.has_ended ≡ true → input.new ≡ input.old }
         ensures lazy { HasWholeLine self.old → input.new ≡ input.old }
+        ensures last { IsTrue (is_err_and is_input_fault result) → IsTrue (S.failed_last input.new) }
         ensures counts { CountsFault (is_err_and is_input_fault result) (S.faults input.old) (S.faults input.new) }
         ensures in_buffer { IfOk result (λ line. IfSome line (λ span. (span.from ≤ span.to) × (span.to ≤ vec_len self.new.buffer))) }
     {
@@ -414,10 +418,11 @@ impl LineCutter {
     pub fn next<S: Source>(&mut self, input: &mut S) -> Result<Option<Line<'_>>, InputStop>
         ensures* next { sem 𝓛 (Rests the_row self.entry (λ new. (bytes : List ℕ) × NextIs view_of self.old new bytes result
             × Tells (S.tells input.old) (S.tells input.new) (S.left input.old ≡ bytes ++ S.left input.new)
-            × ((progress self.old).has_ended ≡ false → (progress new).has_ended ≡ true → IsTrue (S.tells input.old) → S.left input.new ≡ []))) }
+            × ((progress self.old).has_ended ≡ false → (progress new).has_ended ≡ true → IsTrue (S.tells input.new) → S.left input.new ≡ []))) }
         ensures closed { (progress self.old).has_ended ≡ true → input.new ≡ input.old }
         ensures lazy { HasWholeLine self.old → input.new ≡ input.old }
         ensures number { IfOk result (λ line. IfSome line (λ line. line.number ≡ (progress self.old).lines + 1)) }
+        ensures last { IsTrue (is_err_and is_input_fault result) → IsTrue (S.failed_last input.new) }
         ensures counts { CountsFault (is_err_and is_input_fault result) (S.faults input.old) (S.faults input.new) }
     {
         match self.advance(input)? {

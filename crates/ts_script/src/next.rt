@@ -4,7 +4,7 @@ ghost use Rattle.ts_site.specs.Faults.{CountsFault, is_err_and};
 ghost use Rattle.ts_site.specs.Telling.{Tells};
 ghost use Rattle.ts_script.specs.Lines.{line_view};
 ghost use Rattle.ts_script.specs.Cutting.{lines_to_come, next_offset, progress, IsAtLimit, Took, HasSeenAll, HasWholeLine};
-ghost use Rattle.ts_script.specs.Next.{NextCommandIs};
+ghost use Rattle.ts_script.specs.Next.{NextCommandIs, WaitsForMore};
 ghost use Rattle.ts_script.specs.Script.{IsFinished, IsNextCommand, WantMemory};
 ghost use Rattle.ts_script.specs.StopFaults.{is_script_fault};
 
@@ -22,7 +22,7 @@ pub fn next_command<S: Source>(
     cutter: &mut LineCutter,
     input: &mut S,
 ) -> Result<Option<Command>, ScriptStop>
-    ensures command { IsTrue (S.tells input.old) → HasSeenAll cutter.old (S.left input.old)
+    ensures command { IsTrue (S.tells input.new) → HasSeenAll cutter.old (S.left input.old)
         → (lines : List (List ℕ)) → lines_to_come cutter.old (S.left input.old) ≡ map line_view lines
         → IfOk result (NextCommandIs cutter.old cutter.new (S.left input.new) lines) }
     ensures some { IfOk result (λ asked. IfSome asked (λ command. (lines taken rest : List (List ℕ)) × IsNextCommand (progress cutter.old).lines lines command taken rest)) }
@@ -32,10 +32,15 @@ pub fn next_command<S: Source>(
         → (progress cutter.new).lines ≡ (progress cutter.old).lines + 1 → input.new ≡ input.old)) }
     ensures taken { Tells (S.tells input.old) (S.tells input.new) ((bytes : List ℕ) × Took cutter.old cutter.new bytes × (S.left input.old ≡ bytes ++ S.left input.new)) }
     ensures short { IfOk result (λ asked. IfNone asked ((progress cutter.new).taken < (progress cutter.new).limit)) }
-    ensures memory { IsTrue (S.tells input.old) → HasSeenAll cutter.old (S.left input.old)
+    ensures memory { IsTrue (S.tells input.new) → HasSeenAll cutter.old (S.left input.old)
         → (lines : List (List ℕ)) → lines_to_come cutter.old (S.left input.old) ≡ map line_view lines
         → IfErr result (λ stop. stop ≡ ScriptStop.Memory → WantMemory lines) }
+    // At a fault or the limit each whole line of the bytes that were taken was given, and no command stands whole in these.
+    ensures waits { IsTrue (S.tells input.new) → HasSeenAll cutter.old (S.left input.old)
+        → (lines : List (List ℕ)) → lines_to_come cutter.old (S.left input.old) ≡ map line_view lines
+        → IfErr result (λ stop. (stop ≡ ScriptStop.Memory → ⊥) → WaitsForMore cutter.old cutter.new lines) }
     ensures limited { IfErr result (λ stop. stop ≡ ScriptStop.Limit → IsAtLimit cutter.new) }
+    ensures last { IsTrue (is_err_and is_script_fault result) → IsTrue (S.failed_last input.new) }
     ensures counts { CountsFault (is_err_and is_script_fault result) (S.faults input.old) (S.faults input.new) }
 {
     while let Some(line) = cutter.next(input)? {

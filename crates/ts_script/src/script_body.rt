@@ -4,7 +4,7 @@ ghost use Rattle.ts_site.specs.Telling.{Tells};
 ghost use Rattle.ts_script.specs.Lines.{line_view};
 ghost use Rattle.ts_site.specs.Faults.{CountsFault, is_err_and};
 ghost use Rattle.ts_script.specs.Cutting.{lines_to_come, next_offset, progress, IsAtLimit, Took, HasSeenAll};
-ghost use Rattle.ts_script.specs.Next.{GivesBody, ReadsBody};
+ghost use Rattle.ts_script.specs.Next.{GivesBody, ReadsBody, WaitsForEnd};
 ghost use Rattle.ts_script.specs.StopFaults.{is_script_fault};
 
 use crate::body::{BodyFault, BodySoFar};
@@ -26,13 +26,16 @@ pub(crate) fn read_script_body<S: Source>(
     cutter: &mut LineCutter,
     input: &mut S,
 ) -> Result<ScriptBody, ScriptStop>
-    ensures body { IsTrue (S.tells input.old) → HasSeenAll cutter.old (S.left input.old) → (lines : List (List ℕ)) → lines_to_come cutter.old (S.left input.old) ≡ map line_view lines
+    ensures body { IsTrue (S.tells input.new) → HasSeenAll cutter.old (S.left input.old) → (lines : List (List ℕ)) → lines_to_come cutter.old (S.left input.old) ≡ map line_view lines
         → IfOk result (λ given. GivesBody cutter.old cutter.new (S.left input.new) lines given.read given.is_closed) }
     ensures some { IfOk result (λ given. ReadsBody cutter.old cutter.new given.read given.is_closed) }
     ensures offset { OnOk result (next_offset cutter.old ≤ next_offset cutter.new) }
     ensures limit { OnOk result ((progress cutter.new).limit ≡ (progress cutter.old).limit) }
     ensures taken { Tells (S.tells input.old) (S.tells input.new) ((bytes : List ℕ) × Took cutter.old cutter.new bytes × (S.left input.old ≡ bytes ++ S.left input.new)) }
+    ensures waits { IsTrue (S.tells input.new) → HasSeenAll cutter.old (S.left input.old) → (lines : List (List ℕ)) → lines_to_come cutter.old (S.left input.old) ≡ map line_view lines
+        → IfErr result (λ stop. (stop ≡ ScriptStop.Memory → ⊥) → WaitsForEnd cutter.old cutter.new lines) }
     ensures limited { IfErr result (λ stop. stop ≡ ScriptStop.Limit → IsAtLimit cutter.new) }
+    ensures last { IsTrue (is_err_and is_script_fault result) → IsTrue (S.failed_last input.new) }
     ensures counts { CountsFault (is_err_and is_script_fault result) (S.faults input.old) (S.faults input.new) }
 {
     let mut body = BodySoFar::new(alloc);

@@ -16,8 +16,7 @@ fn words_of(alloc: Global, text: &str) -> Result<Vec<String>, Fail> {
 /// What the words of a text ask for, without any input.
 fn asked(alloc: Global, text: &str) -> Result<Option<Command>, Fail> {
     let mut input = MemorySource::new(alloc, b"")?;
-    let mut cutter = LineCutter::new(alloc, 0)?;
-    match first_command(alloc, &words_of(alloc, text)?, &mut cutter, &mut input) {
+    match first_command(alloc, &words_of(alloc, text)?, 0, &mut input) {
         Ok(asked) => Ok(asked),
         Err(_) => Err("no answer")?,
     }
@@ -87,9 +86,8 @@ fn a_waiting_line_feed_has_passed(rt: HostRuntime) -> Result<(), Fail> {
 fn words_ask_for_a_base(rt: HostRuntime) -> Result<(), Fail> {
     let alloc = rt.alloc();
     let mut input = MemorySource::new(alloc, b"<a> <p> <b> .\n<a> <p> <b> .\n")?;
-    let mut cutter = LineCutter::new(alloc, 1 << 40)?;
     let words = words_of(alloc, "base")?;
-    match first_command(alloc, &words, &mut cutter, &mut input) {
+    match first_command(alloc, &words, 1 << 40, &mut input) {
         Ok(Some(Command::Base { body })) => assert_eq!(rt; body.signed().len(), 2),
         _ => return Err("no base")?,
     }
@@ -103,13 +101,7 @@ fn a_line_comes_whole_after_a_fault(rt: HostRuntime) -> Result<(), Fail> {
     input.piece(1);
     input.fail(2);
     let mut cutter = LineCutter::new(alloc, 100)?;
-    let words = words_of(alloc, "base")?;
-    assert!(rt;
-        matches!(
-            first_command(alloc, &words, &mut cutter, &mut input),
-            Err(ScriptStop::Fault)
-        )
-    );
+    assert!(rt; matches!(cutter.next(&mut input), Err(InputStop::Fault)));
     match cutter.next(&mut input) {
         Ok(Some(line)) => assert_eq!(rt; line.bytes, b"<a> <p> <b> .".as_slice()),
         _ => return Err("no line")?,
@@ -190,9 +182,8 @@ fn words_ask_whether_a_layer_has_a_triple(rt: HostRuntime) -> Result<(), Fail> {
 fn words_ask_for_a_commit(rt: HostRuntime) -> Result<(), Fail> {
     let alloc = rt.alloc();
     let mut input = MemorySource::new(alloc, b"-<a> <p> <b> .\n")?;
-    let mut cutter = LineCutter::new(alloc, 1 << 40)?;
     let words = words_of(alloc, "commit 00000007")?;
-    match first_command(alloc, &words, &mut cutter, &mut input) {
+    match first_command(alloc, &words, 1 << 40, &mut input) {
         Ok(
             Some(
                 Command::Commit {

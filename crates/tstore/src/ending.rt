@@ -11,15 +11,18 @@ use std::process::ExitCode;
 use ts_cli::{Outcome, stop_line};
 use ts_real::write_whole;
 
-/// The exit code of a run.
-pub fn exit_code(outcome: &Outcome) -> ExitCode
-    ensures { exit_status result ≡ outcome.now.status }
+/// Writes the line of the stop that ended a run, if one did, and gives the exit code of the run beside what the writing answered. After a
+/// failure a front of the line was written, and the code still tells of the stop.
+pub fn end<W: Write>(errors: &mut W, outcome: &Outcome) -> (ExitCode, io::Result<()>)
+    ensures code { exit_status result.0 ≡ outcome.now.status }
+    ensures whole { OnOk result.1 (Appends (W.contents errors.old) (W.contents errors.new) (stop_lines outcome.now.stop)) }
+    ensures front { OnErr result.1 (AppendsFront (W.contents errors.old) (W.contents errors.new) (stop_lines outcome.now.stop)) }
 {
-    ExitCode::from(outcome.status)
+    let told = tell_stop(errors, outcome);
+    (ExitCode::from(outcome.status), told)
 }
 
-/// Writes the line of the stop that ended a run, if one did. After a failure a front of it was written.
-pub fn tell_stop<W: Write>(errors: &mut W, outcome: &Outcome) -> io::Result<()>
+fn tell_stop<W: Write>(errors: &mut W, outcome: &Outcome) -> io::Result<()>
     ensures whole { OnOk result (Appends (W.contents errors.old) (W.contents errors.new) (stop_lines outcome.now.stop)) }
     ensures front { OnErr result (AppendsFront (W.contents errors.old) (W.contents errors.new) (stop_lines outcome.now.stop)) }
 {

@@ -3,7 +3,7 @@
 
 mod ending;
 
-use crate::ending::{exit_code, tell_stop};
+use crate::ending::end;
 use std::alloc::AllocError;
 use std::env;
 use std::io::{ErrorKind, Stdin};
@@ -13,9 +13,9 @@ use ts_real::{RealSite, RealSource};
 
 fn main(rt: HostRuntime) -> ExitCode {
     let outcome = outcome(&rt);
-    // Where the standard error fails too, the status still tells of the stop.
-    let _ = tell_stop(&mut rt.stderr(), &outcome);
-    exit_code(&outcome)
+    // Where the standard error fails too, nothing is left to tell it.
+    let (code, _told) = end(&mut rt.stderr(), &outcome);
+    code
 }
 
 /// Runs the words of the command line. Where one of them isn't UTF-8, they are no command.

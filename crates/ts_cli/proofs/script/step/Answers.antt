@@ -2,7 +2,7 @@ use Rattle.std.proofs.Common.{◌≡◌}
 use Rattle.ts_store.specs.Keeps.{Keeps}
 use Rattle.ts_store.specs.Step.{step_of}
 use Rattle.ts_store.specs.Stops.{kind_of}
-use Rattle.ts_cli.proofs.StepsLemmas.{changes_once, keeps_only, kind_only}
+use Rattle.ts_cli.proofs.StepsLemmas.{keeps_only, kind_only}
 use Rattle.ts_cli.proofs.script.step.Goals as goal
 
 pub returns-clause-steps : goal.returns-clause-steps
@@ -16,8 +16,8 @@ returns-clause-steps g c = λ state keeps told says.
       says_after = c.step.ensures.says state keeps told says;
       stands_after = c.step.ensures.stands state keeps told;
       telling = c.step.ensures.tells;
-      crash = λ honest. changes_once c.step.result (g.W.Disk.outside c.args.site.now).crash (g.W.Disk.outside c.step.new.site).crash (c.step.ensures.crash keeps.unspent honest);
-      safe = c.step.ensures.safe state keeps;
+      crash = c.step.ensures.crash keeps.unspent told;
+      safe = c.step.ensures.safe state keeps told;
     }
 
 pub returns-clause-keeps : goal.returns-clause-keeps

@@ -1,17 +1,17 @@
 use Rattle.std.proofs.Common.{◌≡◌, ◌++◌, ◌+◌, true, [], IsTrue, refl, ◌∙◌, arith}
 use Rattle.ts_script.specs.Cutting.{view_of, GivesLine, HasEnded, HasSeenAll, IsStopped}
-use Rattle.ts_script.proofs.CuttingLemmas.{next-line, next-none, left-left, took-took, ended-left}
+use Rattle.ts_script.proofs.CuttingLemmas.{next-line, next-none, ended-left, left-left, took-bytes, took-end, took-line, took-nothing}
 use Rattle.ts_script.proofs.BodySoFar.{read-one, read-all, read-some}
 use Rattle.ts_script.proofs.body.read_body.Goals as goal
 
 pub loop-body-init : goal.loop-body-init
 loop-body-init g c = record {
-  tells = refl;
+  tells = λ told. told;
   faults = refl;
   ended = λ told seen. seen;
   lines = λ told seen lines is. record { done = []; rest = lines; parts = refl; to_come = is; number = omega arith; read = c.new-body.ensures c.args.cutter.now.number };
   some = ([], omega arith, c.new-body.ensures c.args.cutter.now.number);
-  taken = ([], record { taken = omega arith; limit = refl }, λ told. refl);
+  taken = ([], took-nothing c.args.cutter.now, λ told. refl);
 }
 
 pub loop-body-preserved : goal.loop-body-preserved
@@ -24,25 +24,25 @@ loop-body-preserved g c =
     let rest = g.S.Source.left c.next.new.input in
     let gives : GivesLine cur after follows.0 (view_of c.in-Some.line) = rw (c.in_ok-line.was, c.in-Some.is) at follows.1 in
     let number : c.in-Some.line.number ≡ cur.number + 1 = rw c.in-Some.is at c.in_ok-line.ensures.number in
-    let ended : IsTrue (g.S.Source.tells c.args.input.now) → HasSeenAll c.args.cutter.now (g.S.Source.left c.args.input.now) → after.has_ended ≡ true → rest ≡ [] =
-    λ told seen is. let tells : IsTrue (g.S.Source.tells c.loop-body.input) = rw was.tells told in
-    ended-left cur.has_ended after.has_ended left follows.0 rest (was.ended told seen) (λ opened ends. follows.3 opened ends tells) (follows.2.1 tells) is in
+    let ended : IsTrue (g.S.Source.tells c.next.new.input) → HasSeenAll c.args.cutter.now (g.S.Source.left c.args.input.now) → after.has_ended ≡ true → rest ≡ [] =
+    λ told seen is.
+    ended-left cur.has_ended after.has_ended left follows.0 rest (was.ended (follows.2.0 told) seen) (λ opened ends. follows.3 opened ends told) (follows.2.1 told) is in
     record {
-      tells = follows.2.0 ∙ was.tells;
+      tells = λ told. was.tells (follows.2.0 told);
       faults = c.in_ok-line.ensures.counts ∙ was.faults;
       ended = ended;
       lines = λ told seen. read-one c.args.cutter.now cur after (g.S.Source.left c.args.input.now) left rest
           c.loop-body.body.signed.items c.add.new.self.signed.items c.loop-body.body.fault c.add.new.self.fault c.in-Some.line
-          (was.lines told seen)
-          (next-line cur after follows.0 left rest (view_of c.in-Some.line) gives (follows.2.1 (rw was.tells told)) (ended told seen))
+          (was.lines (follows.2.0 told) seen)
+          (next-line cur after follows.0 left rest (view_of c.in-Some.line) gives (follows.2.1 told) (ended told seen))
           gives.number number c.in_ok-add.ensures;
       some = read-some c.args.cutter.now.number cur after follows.0
           c.loop-body.body.signed.items c.add.new.self.signed.items c.loop-body.body.fault c.add.new.self.fault c.in-Some.line
           was.some gives number c.in_ok-add.ensures;
       taken = (
         was.taken.0 ++ follows.0,
-        took-took c.args.cutter.now cur after was.taken.0 follows.0 was.taken.1 gives.taken gives.limit,
-        λ told. left-left (g.S.Source.left c.args.input.now) was.taken.0 follows.0 left rest (was.taken.2 told) (follows.2.1 (rw was.tells told)),
+        took-line c.args.cutter.now cur after was.taken.0 follows.0 (view_of c.in-Some.line) was.taken.1 gives,
+        λ told. left-left (g.S.Source.left c.args.input.now) was.taken.0 follows.0 left rest (was.taken.2 (follows.2.0 told)) (follows.2.1 told),
       );
     }
 
@@ -54,12 +54,11 @@ returns-clause-body g c = λ told seen lines is.
     let follows = c.next.follows.holds-at-none in
     let left = g.S.Source.left c.loop-body.input in
     let rest = g.S.Source.left c.next.new.input in
-    let tells : IsTrue (g.S.Source.tells c.loop-body.input) = rw was.tells told in
     let ends : HasEnded cur after follows.0 = rw (c.in_ok-line.was, c.in_default.is) at follows.1 in
-    let none : rest ≡ [] = ended-left cur.has_ended after.has_ended left follows.0 rest (was.ended told seen) (λ opened ends. follows.3 opened ends tells) (follows.2.1 tells) ends.ended in
+    let none : rest ≡ [] = ended-left cur.has_ended after.has_ended left follows.0 rest (was.ended (follows.2.0 told) seen) (λ opened ends. follows.3 opened ends told) (follows.2.1 told) ends.ended in
     c.into_read.ensures c.args.cutter.now.number lines
-    (read-all c.args.cutter.now cur (g.S.Source.left c.args.input.now) left c.loop-body.body.signed.items c.loop-body.body.fault lines (was.lines told seen)
-    (next-none cur after follows.0 left rest ends (follows.2.1 tells) none) is)
+    (read-all c.args.cutter.now cur (g.S.Source.left c.args.input.now) left c.loop-body.body.signed.items c.loop-body.body.fault lines (was.lines (follows.2.0 told) seen)
+    (next-none cur after follows.0 left rest ends (follows.2.1 told) none) is)
 
 pub returns-clause-some : goal.returns-clause-some
 returns-clause-some g c =
@@ -72,10 +71,9 @@ returns-clause-all g c = λ told seen.
     let cur = c.loop-body.cutter in
     let after = c.next.follows.lender-at-none in
     let follows = c.next.follows.holds-at-none in
-    let tells : IsTrue (g.S.Source.tells c.loop-body.input) = rw was.tells told in
     let ends : HasEnded cur after follows.0 = rw (c.in_ok-line.was, c.in_default.is) at follows.1 in
     ended-left cur.has_ended after.has_ended (g.S.Source.left c.loop-body.input) follows.0 (g.S.Source.left c.next.new.input)
-    (was.ended told seen) (λ opened ends. follows.3 opened ends tells) (follows.2.1 tells) ends.ended
+    (was.ended (follows.2.0 told) seen) (λ opened ends. follows.3 opened ends told) (follows.2.1 told) ends.ended
 
 pub returns-clause-taken : goal.returns-clause-taken
 returns-clause-taken g c =
@@ -84,11 +82,11 @@ returns-clause-taken g c =
     let after = c.next.follows.lender-at-none in
     let follows = c.next.follows.holds-at-none in
     let ends : HasEnded cur after follows.0 = rw (c.in_ok-line.was, c.in_default.is) at follows.1 in (
-      follows.2.0 ∙ was.tells,
+      λ told. was.tells (follows.2.0 told),
       λ told. (
         was.taken.0 ++ follows.0,
-        took-took c.args.cutter.now cur after was.taken.0 follows.0 was.taken.1 ends.taken ends.limit,
-        left-left (g.S.Source.left c.args.input.now) was.taken.0 follows.0 (g.S.Source.left c.loop-body.input) (g.S.Source.left c.next.new.input) (was.taken.2 told) (follows.2.1 (rw was.tells told)),
+        took-end c.args.cutter.now cur after was.taken.0 follows.0 was.taken.1 ends,
+        left-left (g.S.Source.left c.args.input.now) was.taken.0 follows.0 (g.S.Source.left c.loop-body.input) (g.S.Source.left c.next.new.input) (was.taken.2 (follows.2.0 told)) (follows.2.1 told),
       ),
     )
 
@@ -99,11 +97,11 @@ returns-in_err-line-clause-taken g c =
     let after = c.next.follows.lender-at-none in
     let follows = c.next.follows.holds-at-none in
     let stops : IsStopped cur after follows.0 c.in_err-line.field-0.0 = rw c.in_err-line.was at follows.1 in (
-      follows.2.0 ∙ was.tells,
+      λ told. was.tells (follows.2.0 told),
       λ told. (
         was.taken.0 ++ follows.0,
-        took-took c.args.cutter.now cur after was.taken.0 follows.0 was.taken.1 stops.takes.taken stops.takes.limit,
-        left-left (g.S.Source.left c.args.input.now) was.taken.0 follows.0 (g.S.Source.left c.loop-body.input) (g.S.Source.left c.next.new.input) (was.taken.2 told) (follows.2.1 (rw was.tells told)),
+        took-bytes c.args.cutter.now cur after was.taken.0 follows.0 was.taken.1 stops.takes,
+        left-left (g.S.Source.left c.args.input.now) was.taken.0 follows.0 (g.S.Source.left c.loop-body.input) (g.S.Source.left c.next.new.input) (was.taken.2 (follows.2.0 told)) (follows.2.1 told),
       ),
     )
 
@@ -114,10 +112,10 @@ returns-in_err-add-clause-taken g c =
     let after = c.next.follows.lender-at-none in
     let follows = c.next.follows.holds-at-none in
     let gives : GivesLine cur after follows.0 (view_of c.in-Some.line) = rw (c.in_ok-line.was, c.in-Some.is) at follows.1 in (
-      follows.2.0 ∙ was.tells,
+      λ told. was.tells (follows.2.0 told),
       λ told. (
         was.taken.0 ++ follows.0,
-        took-took c.args.cutter.now cur after was.taken.0 follows.0 was.taken.1 gives.taken gives.limit,
-        left-left (g.S.Source.left c.args.input.now) was.taken.0 follows.0 (g.S.Source.left c.loop-body.input) (g.S.Source.left c.next.new.input) (was.taken.2 told) (follows.2.1 (rw was.tells told)),
+        took-line c.args.cutter.now cur after was.taken.0 follows.0 (view_of c.in-Some.line) was.taken.1 gives,
+        left-left (g.S.Source.left c.args.input.now) was.taken.0 follows.0 (g.S.Source.left c.loop-body.input) (g.S.Source.left c.next.new.input) (was.taken.2 (follows.2.0 told)) (follows.2.1 told),
       ),
     )

@@ -6,12 +6,12 @@ use Rattle.ts_script.proofs.body.read_body.Given as goal
 -- These bytes were taken so far, the lines before what is left were read, and no fault came.
 abbrev pub invariant-loop-body : goal.invariant-loop-body
 invariant-loop-body g l = record {
-  tells : g.S.Source.tells l.input ≡ g.S.Source.tells l.initial.input;
+  tells : IsTrue (g.S.Source.tells l.input) → IsTrue (g.S.Source.tells l.initial.input);
   faults : g.S.Source.faults l.input ≡ g.S.Source.faults l.initial.input;
-  ended : IsTrue (g.S.Source.tells l.initial.input) → HasSeenAll l.initial.cutter (g.S.Source.left l.initial.input) → HasSeenAll l.cutter (g.S.Source.left l.input);
-  lines : IsTrue (g.S.Source.tells l.initial.input) → HasSeenAll l.initial.cutter (g.S.Source.left l.initial.input) → IsReadSoFar l.initial.cutter (g.S.Source.left l.initial.input) l.cutter (g.S.Source.left l.input) l.body.signed.items l.body.fault;
+  ended : IsTrue (g.S.Source.tells l.input) → HasSeenAll l.initial.cutter (g.S.Source.left l.initial.input) → HasSeenAll l.cutter (g.S.Source.left l.input);
+  lines : IsTrue (g.S.Source.tells l.input) → HasSeenAll l.initial.cutter (g.S.Source.left l.initial.input) → IsReadSoFar l.initial.cutter (g.S.Source.left l.initial.input) l.cutter (g.S.Source.left l.input) l.body.signed.items l.body.fault;
   some : IsReadFrom (progress l.initial.cutter).lines (progress l.cutter).lines l.body.signed.items l.body.fault;
-  taken : (bytes : List ℕ) × Took l.initial.cutter l.cutter bytes × (IsTrue (g.S.Source.tells l.initial.input) → g.S.Source.left l.initial.input ≡ bytes ++ g.S.Source.left l.input);
+  taken : (bytes : List ℕ) × Took l.initial.cutter l.cutter bytes × (IsTrue (g.S.Source.tells l.input) → g.S.Source.left l.initial.input ≡ bytes ++ g.S.Source.left l.input);
 }
 
 abbrev pub decreases-loop-body : goal.decreases-loop-body

@@ -1,4 +1,5 @@
 use Rattle.ts_script.proofs.CommandLaws.{same_command, no_command_is_none, some_command, body_of_triples, commit_of_triples}
+use Rattle.ts_script.proofs.LabelLaws.{label_of_words}
 use Rattle.ts_script.proofs.law.one_command.Goals as goal
 
 pub returns-clause-once : goal.returns-clause-once
@@ -15,3 +16,6 @@ returns-clause-triples c = body_of_triples
 
 pub returns-clause-commit_triples : goal.returns-clause-commit_triples
 returns-clause-commit_triples c = commit_of_triples
+
+pub returns-clause-label : goal.returns-clause-label
+returns-clause-label c = label_of_words

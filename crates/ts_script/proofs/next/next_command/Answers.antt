@@ -4,8 +4,10 @@ use Rattle.ts_script.specs.Script.{IsPassedOver, LineIs}
 use Rattle.ts_script.specs.declared.head.Head.{Head}
 use Rattle.ts_script.specs.declared.head.Head.TheVariants.{Whole, Awaits}
 use Rattle.ts_script.specs.declared.script_line.ScriptLine.TheVariants.{PassedOver, Overlong, NoCommand, Heads}
-use Rattle.ts_script.proofs.CuttingLemmas.{next-line, next-none, left-left, took-took, ended-left}
-use Rattle.ts_script.proofs.NextLemmas.{SeenAs, gives-line, gives-body, gives-none, wants-memory, stop-wants, some-line, some-body, finished_takes}
+use Rattle.ts_script.proofs.CuttingLemmas.{next-line, next-none, ended-left, left-left, took-bytes, took-end, took-line, took-took}
+use Rattle.ts_script.proofs.BodyUpTo.{stop-waits, waits-passed}
+use Rattle.ts_script.specs.Next.{WaitsForMore}
+use Rattle.ts_script.proofs.NextLemmas.{waits-between, waits-body, SeenAs, gives-line, gives-body, gives-none, wants-memory, stop-wants, some-line, some-body, finished_takes}
 use Rattle.ts_script.proofs.ScriptSoFar.{up_to-more, have_read-more}
 use Rattle.ts_script.proofs.next.next_command.Goals as goal
 
@@ -19,25 +21,25 @@ loop-line-preserved g c =
     let rest = g.S.Source.left c.next.new.input in
     let gives : GivesLine cur after follows.0 (view_of c.in-Some.line) = rw (c.in_ok-line.was, c.in-Some.is) at follows.1 in
     let number : c.in-Some.line.number ≡ cur.number + 1 = rw c.in-Some.is at c.in_ok-line.ensures.number in
-    let ended : IsTrue (g.S.Source.tells c.args.input.now) → HasSeenAll c.args.cutter.now (g.S.Source.left c.args.input.now) → after.has_ended ≡ true → rest ≡ [] =
-    λ told seen is. let tells : IsTrue (g.S.Source.tells c.loop-line.input) = rw was.tells told in
-    ended-left cur.has_ended after.has_ended left follows.0 rest (was.ended told seen) (λ opened ends. follows.3 opened ends tells) (follows.2.1 tells) is in
+    let ended : IsTrue (g.S.Source.tells c.next.new.input) → HasSeenAll c.args.cutter.now (g.S.Source.left c.args.input.now) → after.has_ended ≡ true → rest ≡ [] =
+    λ told seen is.
+    ended-left cur.has_ended after.has_ended left follows.0 rest (was.ended (follows.2.0 told) seen) (λ opened ends. follows.3 opened ends told) (follows.2.1 told) is in
     let seen_as : SeenAs (view_of c.in-Some.line) PassedOver = λ bytes e. subst (LineIs bytes) c.in-PassedOver.is (c.in_ok-read_script_line.ensures.line bytes e) in
     let count : cur.number ≡ c.args.cutter.now.number + length was.some.0 = was.some.1 in
     record {
-      tells = follows.2.0 ∙ was.tells;
+      tells = λ told. was.tells (follows.2.0 told);
       faults = c.in_ok-line.ensures.counts ∙ was.faults;
       ended = ended;
       lines = λ told seen. up_to-more IsPassedOver c.args.cutter.now cur after (g.S.Source.left c.args.input.now) left rest (view_of c.in-Some.line)
-          (was.lines told seen)
-          (next-line cur after follows.0 left rest (view_of c.in-Some.line) gives (follows.2.1 (rw was.tells told)) (ended told seen)) gives.number seen_as;
+          (was.lines (follows.2.0 told) seen)
+          (next-line cur after follows.0 left rest (view_of c.in-Some.line) gives (follows.2.1 told) (ended told seen)) gives.number seen_as;
       some = have_read-more IsPassedOver c.args.cutter.now.number cur after follows.0 (view_of c.in-Some.line) was.some gives seen_as;
       offset = omega (arith, was.offset, gives.offset);
       lazy = λ same. absurd (omega (arith, same, gives.number, count));
       taken = (
         was.taken.0 ++ follows.0,
-        took-took c.args.cutter.now cur after was.taken.0 follows.0 was.taken.1 gives.taken gives.limit,
-        λ told. left-left (g.S.Source.left c.args.input.now) was.taken.0 follows.0 left rest (was.taken.2 told) (follows.2.1 (rw was.tells told)),
+        took-line c.args.cutter.now cur after was.taken.0 follows.0 (view_of c.in-Some.line) was.taken.1 gives,
+        λ told. left-left (g.S.Source.left c.args.input.now) was.taken.0 follows.0 left rest (was.taken.2 (follows.2.0 told)) (follows.2.1 told),
       );
     }
 
@@ -51,13 +53,13 @@ returns-in-Overlong-clause-command g c = λ told seen.
     let rest = g.S.Source.left c.next.new.input in
     let gives : GivesLine cur after follows.0 (view_of c.in-Some.line) = rw (c.in_ok-line.was, c.in-Some.is) at follows.1 in
     let number : c.in-Some.line.number ≡ cur.number + 1 = rw c.in-Some.is at c.in_ok-line.ensures.number in
-    let ended : IsTrue (g.S.Source.tells c.args.input.now) → HasSeenAll c.args.cutter.now (g.S.Source.left c.args.input.now) → after.has_ended ≡ true → rest ≡ [] =
-    λ told seen is. let tells : IsTrue (g.S.Source.tells c.loop-line.input) = rw was.tells told in
-    ended-left cur.has_ended after.has_ended left follows.0 rest (was.ended told seen) (λ opened ends. follows.3 opened ends tells) (follows.2.1 tells) is in
+    let ended : IsTrue (g.S.Source.tells c.next.new.input) → HasSeenAll c.args.cutter.now (g.S.Source.left c.args.input.now) → after.has_ended ≡ true → rest ≡ [] =
+    λ told seen is.
+    ended-left cur.has_ended after.has_ended left follows.0 rest (was.ended (follows.2.0 told) seen) (λ opened ends. follows.3 opened ends told) (follows.2.1 told) is in
     let seen_as : SeenAs (view_of c.in-Some.line) Overlong = λ bytes e. subst (LineIs bytes) c.in-Overlong.is (c.in_ok-read_script_line.ensures.line bytes e) in
     gives-line c.args.cutter.now cur after (g.S.Source.left c.args.input.now) left rest c.in-Some.line Overlong _
-    (was.lines told seen)
-    (next-line cur after follows.0 left rest (view_of c.in-Some.line) gives (follows.2.1 (rw was.tells told)) (ended told seen))
+    (was.lines (follows.2.0 told) seen)
+    (next-line cur after follows.0 left rest (view_of c.in-Some.line) gives (follows.2.1 told) (ended told seen))
     gives.number number seen_as (λ _. (refl, refl)) (ended told seen)
 
 pub returns-in-Overlong-clause-some : goal.returns-in-Overlong-clause-some
@@ -83,11 +85,11 @@ returns-in-Overlong-clause-taken g c =
     let rest = g.S.Source.left c.next.new.input in
     let gives : GivesLine cur after follows.0 (view_of c.in-Some.line) = rw (c.in_ok-line.was, c.in-Some.is) at follows.1 in
     let number : c.in-Some.line.number ≡ cur.number + 1 = rw c.in-Some.is at c.in_ok-line.ensures.number in (
-      follows.2.0 ∙ was.tells,
+      λ told. was.tells (follows.2.0 told),
       λ told. (
         was.taken.0 ++ follows.0,
-        took-took c.args.cutter.now cur after was.taken.0 follows.0 was.taken.1 gives.taken gives.limit,
-        left-left (g.S.Source.left c.args.input.now) was.taken.0 follows.0 left rest (was.taken.2 told) (follows.2.1 (rw was.tells told)),
+        took-line c.args.cutter.now cur after was.taken.0 follows.0 (view_of c.in-Some.line) was.taken.1 gives,
+        left-left (g.S.Source.left c.args.input.now) was.taken.0 follows.0 left rest (was.taken.2 (follows.2.0 told)) (follows.2.1 told),
       ),
     )
 
@@ -101,13 +103,13 @@ returns-in-NoCommand-clause-command g c = λ told seen.
     let rest = g.S.Source.left c.next.new.input in
     let gives : GivesLine cur after follows.0 (view_of c.in-Some.line) = rw (c.in_ok-line.was, c.in-Some.is) at follows.1 in
     let number : c.in-Some.line.number ≡ cur.number + 1 = rw c.in-Some.is at c.in_ok-line.ensures.number in
-    let ended : IsTrue (g.S.Source.tells c.args.input.now) → HasSeenAll c.args.cutter.now (g.S.Source.left c.args.input.now) → after.has_ended ≡ true → rest ≡ [] =
-    λ told seen is. let tells : IsTrue (g.S.Source.tells c.loop-line.input) = rw was.tells told in
-    ended-left cur.has_ended after.has_ended left follows.0 rest (was.ended told seen) (λ opened ends. follows.3 opened ends tells) (follows.2.1 tells) is in
+    let ended : IsTrue (g.S.Source.tells c.next.new.input) → HasSeenAll c.args.cutter.now (g.S.Source.left c.args.input.now) → after.has_ended ≡ true → rest ≡ [] =
+    λ told seen is.
+    ended-left cur.has_ended after.has_ended left follows.0 rest (was.ended (follows.2.0 told) seen) (λ opened ends. follows.3 opened ends told) (follows.2.1 told) is in
     let seen_as : SeenAs (view_of c.in-Some.line) NoCommand = λ bytes e. subst (LineIs bytes) c.in-NoCommand.is (c.in_ok-read_script_line.ensures.line bytes e) in
     gives-line c.args.cutter.now cur after (g.S.Source.left c.args.input.now) left rest c.in-Some.line NoCommand _
-    (was.lines told seen)
-    (next-line cur after follows.0 left rest (view_of c.in-Some.line) gives (follows.2.1 (rw was.tells told)) (ended told seen))
+    (was.lines (follows.2.0 told) seen)
+    (next-line cur after follows.0 left rest (view_of c.in-Some.line) gives (follows.2.1 told) (ended told seen))
     gives.number number seen_as (λ _. (refl, refl)) (ended told seen)
 
 pub returns-in-NoCommand-clause-some : goal.returns-in-NoCommand-clause-some
@@ -133,11 +135,11 @@ returns-in-NoCommand-clause-taken g c =
     let rest = g.S.Source.left c.next.new.input in
     let gives : GivesLine cur after follows.0 (view_of c.in-Some.line) = rw (c.in_ok-line.was, c.in-Some.is) at follows.1 in
     let number : c.in-Some.line.number ≡ cur.number + 1 = rw c.in-Some.is at c.in_ok-line.ensures.number in (
-      follows.2.0 ∙ was.tells,
+      λ told. was.tells (follows.2.0 told),
       λ told. (
         was.taken.0 ++ follows.0,
-        took-took c.args.cutter.now cur after was.taken.0 follows.0 was.taken.1 gives.taken gives.limit,
-        left-left (g.S.Source.left c.args.input.now) was.taken.0 follows.0 left rest (was.taken.2 told) (follows.2.1 (rw was.tells told)),
+        took-line c.args.cutter.now cur after was.taken.0 follows.0 (view_of c.in-Some.line) was.taken.1 gives,
+        left-left (g.S.Source.left c.args.input.now) was.taken.0 follows.0 left rest (was.taken.2 (follows.2.0 told)) (follows.2.1 told),
       ),
     )
 
@@ -151,13 +153,13 @@ returns-in-Heads-Whole-clause-command g c = λ told seen.
     let rest = g.S.Source.left c.next.new.input in
     let gives : GivesLine cur after follows.0 (view_of c.in-Some.line) = rw (c.in_ok-line.was, c.in-Some.is) at follows.1 in
     let number : c.in-Some.line.number ≡ cur.number + 1 = rw c.in-Some.is at c.in_ok-line.ensures.number in
-    let ended : IsTrue (g.S.Source.tells c.args.input.now) → HasSeenAll c.args.cutter.now (g.S.Source.left c.args.input.now) → after.has_ended ≡ true → rest ≡ [] =
-    λ told seen is. let tells : IsTrue (g.S.Source.tells c.loop-line.input) = rw was.tells told in
-    ended-left cur.has_ended after.has_ended left follows.0 rest (was.ended told seen) (λ opened ends. follows.3 opened ends tells) (follows.2.1 tells) is in
+    let ended : IsTrue (g.S.Source.tells c.next.new.input) → HasSeenAll c.args.cutter.now (g.S.Source.left c.args.input.now) → after.has_ended ≡ true → rest ≡ [] =
+    λ told seen is.
+    ended-left cur.has_ended after.has_ended left follows.0 rest (was.ended (follows.2.0 told) seen) (λ opened ends. follows.3 opened ends told) (follows.2.1 told) is in
     let seen_as : SeenAs (view_of c.in-Some.line) (Heads (Whole c.in-Heads-Whole.command)) = λ bytes e. subst (LineIs bytes) (c.in-Heads-Whole.is ∙ ap (λ (head : Head). Heads head) c.in-Heads-Whole.field-0-is) (c.in_ok-read_script_line.ensures.line bytes e) in
     gives-line c.args.cutter.now cur after (g.S.Source.left c.args.input.now) left rest c.in-Some.line (Heads (Whole c.in-Heads-Whole.command)) c.in-Heads-Whole.command
-    (was.lines told seen)
-    (next-line cur after follows.0 left rest (view_of c.in-Some.line) gives (follows.2.1 (rw was.tells told)) (ended told seen))
+    (was.lines (follows.2.0 told) seen)
+    (next-line cur after follows.0 left rest (view_of c.in-Some.line) gives (follows.2.1 told) (ended told seen))
     gives.number number seen_as (λ _. (refl, refl)) (ended told seen)
 
 pub returns-in-Heads-Whole-clause-some : goal.returns-in-Heads-Whole-clause-some
@@ -183,16 +185,17 @@ returns-in-Heads-Whole-clause-taken g c =
     let rest = g.S.Source.left c.next.new.input in
     let gives : GivesLine cur after follows.0 (view_of c.in-Some.line) = rw (c.in_ok-line.was, c.in-Some.is) at follows.1 in
     let number : c.in-Some.line.number ≡ cur.number + 1 = rw c.in-Some.is at c.in_ok-line.ensures.number in (
-      follows.2.0 ∙ was.tells,
+      λ told. was.tells (follows.2.0 told),
       λ told. (
         was.taken.0 ++ follows.0,
-        took-took c.args.cutter.now cur after was.taken.0 follows.0 was.taken.1 gives.taken gives.limit,
-        left-left (g.S.Source.left c.args.input.now) was.taken.0 follows.0 left rest (was.taken.2 told) (follows.2.1 (rw was.tells told)),
+        took-line c.args.cutter.now cur after was.taken.0 follows.0 (view_of c.in-Some.line) was.taken.1 gives,
+        left-left (g.S.Source.left c.args.input.now) was.taken.0 follows.0 left rest (was.taken.2 (follows.2.0 told)) (follows.2.1 told),
       ),
     )
 
 pub returns-in-Heads-Awaits-clause-command : goal.returns-in-Heads-Awaits-clause-command
-returns-in-Heads-Awaits-clause-command g c = λ told seen.
+returns-in-Heads-Awaits-clause-command g c = λ behind seen.
+    let told = c.read_script_body.ensures.taken.0 behind in
     let was = c.loop-line.invariant in
     let cur = c.loop-line.cutter in
     let after = c.next.follows.lender-at-none in
@@ -201,17 +204,17 @@ returns-in-Heads-Awaits-clause-command g c = λ told seen.
     let rest = g.S.Source.left c.next.new.input in
     let gives : GivesLine cur after follows.0 (view_of c.in-Some.line) = rw (c.in_ok-line.was, c.in-Some.is) at follows.1 in
     let number : c.in-Some.line.number ≡ cur.number + 1 = rw c.in-Some.is at c.in_ok-line.ensures.number in
-    let ended : IsTrue (g.S.Source.tells c.args.input.now) → HasSeenAll c.args.cutter.now (g.S.Source.left c.args.input.now) → after.has_ended ≡ true → rest ≡ [] =
-    λ told seen is. let tells : IsTrue (g.S.Source.tells c.loop-line.input) = rw was.tells told in
-    ended-left cur.has_ended after.has_ended left follows.0 rest (was.ended told seen) (λ opened ends. follows.3 opened ends tells) (follows.2.1 tells) is in
+    let ended : IsTrue (g.S.Source.tells c.next.new.input) → HasSeenAll c.args.cutter.now (g.S.Source.left c.args.input.now) → after.has_ended ≡ true → rest ≡ [] =
+    λ told seen is.
+    ended-left cur.has_ended after.has_ended left follows.0 rest (was.ended (follows.2.0 told) seen) (λ opened ends. follows.3 opened ends told) (follows.2.1 told) is in
     let seen_as : SeenAs (view_of c.in-Some.line) (Heads (Awaits c.in-Heads-Awaits.opening)) =
     λ bytes e. subst (LineIs bytes) (c.in-Heads-Awaits.is ∙ ap (λ (head : Head). Heads head) c.in-Heads-Awaits.field-0-is) (c.in_ok-read_script_line.ensures.line bytes e) in
     let body = c.in_ok-body-in-Heads-Awaits.body in
     gives-body c.args.cutter.now cur after c.read_script_body.new.cutter (g.S.Source.left c.args.input.now) left rest (g.S.Source.left c.read_script_body.new.input) c.in-Some.line
     c.in-Heads-Awaits.opening body.read body.is_closed _
-    (was.lines told seen)
-    (next-line cur after follows.0 left rest (view_of c.in-Some.line) gives (follows.2.1 (rw was.tells told)) (ended told seen))
-    gives.number number seen_as (c.in_ok-body-in-Heads-Awaits.ensures.body (rw (follows.2.0 ∙ was.tells) told) (ended told seen)) c.close.ensures
+    (was.lines (follows.2.0 told) seen)
+    (next-line cur after follows.0 left rest (view_of c.in-Some.line) gives (follows.2.1 told) (ended told seen))
+    gives.number number seen_as (c.in_ok-body-in-Heads-Awaits.ensures.body behind (ended told seen)) c.close.ensures
 
 pub returns-in-Heads-Awaits-clause-some : goal.returns-in-Heads-Awaits-clause-some
 returns-in-Heads-Awaits-clause-some g c =
@@ -257,14 +260,15 @@ returns-in_err-body-in-Heads-Awaits-clause-taken g c =
     let gives : GivesLine cur after follows.0 (view_of c.in-Some.line) = rw (c.in_ok-line.was, c.in-Some.is) at follows.1 in
     let number : c.in-Some.line.number ≡ cur.number + 1 = rw c.in-Some.is at c.in_ok-line.ensures.number in
     let body = c.read_script_body.ensures.taken in (
-      body.0 ∙ follows.2.0 ∙ was.tells,
-      λ told.
-          let taken = body.1 (rw (follows.2.0 ∙ was.tells) told) in (
+      λ told. was.tells (follows.2.0 (body.0 told)),
+      λ behind.
+          let told = body.0 behind in
+          let taken = body.1 behind in (
             (was.taken.0 ++ follows.0) ++ taken.0,
             took-took c.args.cutter.now after c.read_script_body.new.cutter (was.taken.0 ++ follows.0) taken.0
-                (took-took c.args.cutter.now cur after was.taken.0 follows.0 was.taken.1 gives.taken gives.limit) taken.1.taken taken.1.limit,
+                (took-line c.args.cutter.now cur after was.taken.0 follows.0 (view_of c.in-Some.line) was.taken.1 gives) taken.1,
             left-left (g.S.Source.left c.args.input.now) (was.taken.0 ++ follows.0) taken.0 rest (g.S.Source.left c.read_script_body.new.input)
-                (left-left (g.S.Source.left c.args.input.now) was.taken.0 follows.0 left rest (was.taken.2 told) (follows.2.1 (rw was.tells told))) taken.2,
+                (left-left (g.S.Source.left c.args.input.now) was.taken.0 follows.0 left rest (was.taken.2 (follows.2.0 told)) (follows.2.1 told)) taken.2,
           ),
     )
 
@@ -279,14 +283,15 @@ returns-in-Heads-Awaits-clause-taken g c =
     let gives : GivesLine cur after follows.0 (view_of c.in-Some.line) = rw (c.in_ok-line.was, c.in-Some.is) at follows.1 in
     let number : c.in-Some.line.number ≡ cur.number + 1 = rw c.in-Some.is at c.in_ok-line.ensures.number in
     let body = c.read_script_body.ensures.taken in (
-      body.0 ∙ follows.2.0 ∙ was.tells,
-      λ told.
-          let taken = body.1 (rw (follows.2.0 ∙ was.tells) told) in (
+      λ told. was.tells (follows.2.0 (body.0 told)),
+      λ behind.
+          let told = body.0 behind in
+          let taken = body.1 behind in (
             (was.taken.0 ++ follows.0) ++ taken.0,
             took-took c.args.cutter.now after c.read_script_body.new.cutter (was.taken.0 ++ follows.0) taken.0
-                (took-took c.args.cutter.now cur after was.taken.0 follows.0 was.taken.1 gives.taken gives.limit) taken.1.taken taken.1.limit,
+                (took-line c.args.cutter.now cur after was.taken.0 follows.0 (view_of c.in-Some.line) was.taken.1 gives) taken.1,
             left-left (g.S.Source.left c.args.input.now) (was.taken.0 ++ follows.0) taken.0 rest (g.S.Source.left c.read_script_body.new.input)
-                (left-left (g.S.Source.left c.args.input.now) was.taken.0 follows.0 left rest (was.taken.2 told) (follows.2.1 (rw was.tells told))) taken.2,
+                (left-left (g.S.Source.left c.args.input.now) was.taken.0 follows.0 left rest (was.taken.2 (follows.2.0 told)) (follows.2.1 told)) taken.2,
           ),
     )
 
@@ -298,10 +303,9 @@ returns-clause-command g c = λ told seen.
     let follows = c.next.follows.holds-at-none in
     let left = g.S.Source.left c.loop-line.input in
     let rest = g.S.Source.left c.next.new.input in
-    let tells : IsTrue (g.S.Source.tells c.loop-line.input) = rw was.tells told in
     let ends : HasEnded cur after follows.0 = rw (c.in_ok-line.was, c.in_default.is) at follows.1 in
-    let none : rest ≡ [] = ended-left cur.has_ended after.has_ended left follows.0 rest (was.ended told seen) (λ opened ends. follows.3 opened ends tells) (follows.2.1 tells) ends.ended in
-    gives-none c.args.cutter.now cur after (g.S.Source.left c.args.input.now) left rest (was.lines told seen) (next-none cur after follows.0 left rest ends (follows.2.1 tells) none) none
+    let none : rest ≡ [] = ended-left cur.has_ended after.has_ended left follows.0 rest (was.ended (follows.2.0 told) seen) (λ opened ends. follows.3 opened ends told) (follows.2.1 told) ends.ended in
+    gives-none c.args.cutter.now cur after (g.S.Source.left c.args.input.now) left rest (was.lines (follows.2.0 told) seen) (next-none cur after follows.0 left rest ends (follows.2.1 told) none) none
 
 pub returns-clause-taken : goal.returns-clause-taken
 returns-clause-taken g c =
@@ -312,11 +316,11 @@ returns-clause-taken g c =
     let left = g.S.Source.left c.loop-line.input in
     let rest = g.S.Source.left c.next.new.input in
     let ends : HasEnded cur after follows.0 = rw (c.in_ok-line.was, c.in_default.is) at follows.1 in (
-      follows.2.0 ∙ was.tells,
+      λ told. was.tells (follows.2.0 told),
       λ told. (
         was.taken.0 ++ follows.0,
-        took-took c.args.cutter.now cur after was.taken.0 follows.0 was.taken.1 ends.taken ends.limit,
-        left-left (g.S.Source.left c.args.input.now) was.taken.0 follows.0 left rest (was.taken.2 told) (follows.2.1 (rw was.tells told)),
+        took-end c.args.cutter.now cur after was.taken.0 follows.0 was.taken.1 ends,
+        left-left (g.S.Source.left c.args.input.now) was.taken.0 follows.0 left rest (was.taken.2 (follows.2.0 told)) (follows.2.1 told),
       ),
     )
 
@@ -329,11 +333,11 @@ returns-in_err-line-clause-taken g c =
     let left = g.S.Source.left c.loop-line.input in
     let rest = g.S.Source.left c.next.new.input in
     let stops : IsStopped cur after follows.0 c.in_err-line.field-0.0 = rw c.in_err-line.was at follows.1 in (
-      follows.2.0 ∙ was.tells,
+      λ told. was.tells (follows.2.0 told),
       λ told. (
         was.taken.0 ++ follows.0,
-        took-took c.args.cutter.now cur after was.taken.0 follows.0 was.taken.1 stops.takes.taken stops.takes.limit,
-        left-left (g.S.Source.left c.args.input.now) was.taken.0 follows.0 left rest (was.taken.2 told) (follows.2.1 (rw was.tells told)),
+        took-bytes c.args.cutter.now cur after was.taken.0 follows.0 was.taken.1 stops.takes,
+        left-left (g.S.Source.left c.args.input.now) was.taken.0 follows.0 left rest (was.taken.2 (follows.2.0 told)) (follows.2.1 told),
       ),
     )
 
@@ -347,11 +351,11 @@ returns-in_err-read_script_line-clause-taken g c =
     let rest = g.S.Source.left c.next.new.input in
     let gives : GivesLine cur after follows.0 (view_of c.in-Some.line) = rw (c.in_ok-line.was, c.in-Some.is) at follows.1 in
     let number : c.in-Some.line.number ≡ cur.number + 1 = rw c.in-Some.is at c.in_ok-line.ensures.number in (
-      follows.2.0 ∙ was.tells,
+      λ told. was.tells (follows.2.0 told),
       λ told. (
         was.taken.0 ++ follows.0,
-        took-took c.args.cutter.now cur after was.taken.0 follows.0 was.taken.1 gives.taken gives.limit,
-        left-left (g.S.Source.left c.args.input.now) was.taken.0 follows.0 left rest (was.taken.2 told) (follows.2.1 (rw was.tells told)),
+        took-line c.args.cutter.now cur after was.taken.0 follows.0 (view_of c.in-Some.line) was.taken.1 gives,
+        left-left (g.S.Source.left c.args.input.now) was.taken.0 follows.0 left rest (was.taken.2 (follows.2.0 told)) (follows.2.1 told),
       ),
     )
 
@@ -365,16 +369,17 @@ returns-in_err-read_script_line-clause-memory g c = λ told seen lines is.
     let rest = g.S.Source.left c.next.new.input in
     let gives : GivesLine cur after follows.0 (view_of c.in-Some.line) = rw (c.in_ok-line.was, c.in-Some.is) at follows.1 in
     let number : c.in-Some.line.number ≡ cur.number + 1 = rw c.in-Some.is at c.in_ok-line.ensures.number in
-    let ended : IsTrue (g.S.Source.tells c.args.input.now) → HasSeenAll c.args.cutter.now (g.S.Source.left c.args.input.now) → after.has_ended ≡ true → rest ≡ [] =
-    λ told seen is. let tells : IsTrue (g.S.Source.tells c.loop-line.input) = rw was.tells told in
-    ended-left cur.has_ended after.has_ended left follows.0 rest (was.ended told seen) (λ opened ends. follows.3 opened ends tells) (follows.2.1 tells) is in
-    let wants = wants-memory c.args.cutter.now cur after (g.S.Source.left c.args.input.now) left rest (view_of c.in-Some.line) (was.lines told seen)
-    (next-line cur after follows.0 left rest (view_of c.in-Some.line) gives (follows.2.1 (rw was.tells told)) (ended told seen))
+    let ended : IsTrue (g.S.Source.tells c.next.new.input) → HasSeenAll c.args.cutter.now (g.S.Source.left c.args.input.now) → after.has_ended ≡ true → rest ≡ [] =
+    λ told seen is.
+    ended-left cur.has_ended after.has_ended left follows.0 rest (was.ended (follows.2.0 told) seen) (λ opened ends. follows.3 opened ends told) (follows.2.1 told) is in
+    let wants = wants-memory c.args.cutter.now cur after (g.S.Source.left c.args.input.now) left rest (view_of c.in-Some.line) (was.lines (follows.2.0 told) seen)
+    (next-line cur after follows.0 left rest (view_of c.in-Some.line) gives (follows.2.1 told) (ended told seen))
     (λ bytes e. inl (c.in_err-read_script_line.ensures.memory bytes e)) lines is in
     stop-wants c.from_residual-in_err-read_script_line.result lines wants
 
 pub returns-in_err-body-in-Heads-Awaits-clause-memory : goal.returns-in_err-body-in-Heads-Awaits-clause-memory
-returns-in_err-body-in-Heads-Awaits-clause-memory g c = λ told seen lines is.
+returns-in_err-body-in-Heads-Awaits-clause-memory g c = λ behind seen lines is.
+    let told = c.read_script_body.ensures.taken.0 behind in
     let was = c.loop-line.invariant in
     let cur = c.loop-line.cutter in
     let after = c.next.follows.lender-at-none in
@@ -383,12 +388,44 @@ returns-in_err-body-in-Heads-Awaits-clause-memory g c = λ told seen lines is.
     let rest = g.S.Source.left c.next.new.input in
     let gives : GivesLine cur after follows.0 (view_of c.in-Some.line) = rw (c.in_ok-line.was, c.in-Some.is) at follows.1 in
     let number : c.in-Some.line.number ≡ cur.number + 1 = rw c.in-Some.is at c.in_ok-line.ensures.number in
-    let ended : IsTrue (g.S.Source.tells c.args.input.now) → HasSeenAll c.args.cutter.now (g.S.Source.left c.args.input.now) → after.has_ended ≡ true → rest ≡ [] =
-    λ told seen is. let tells : IsTrue (g.S.Source.tells c.loop-line.input) = rw was.tells told in
-    ended-left cur.has_ended after.has_ended left follows.0 rest (was.ended told seen) (λ opened ends. follows.3 opened ends tells) (follows.2.1 tells) is in
+    let ended : IsTrue (g.S.Source.tells c.next.new.input) → HasSeenAll c.args.cutter.now (g.S.Source.left c.args.input.now) → after.has_ended ≡ true → rest ≡ [] =
+    λ told seen is.
+    ended-left cur.has_ended after.has_ended left follows.0 rest (was.ended (follows.2.0 told) seen) (λ opened ends. follows.3 opened ends told) (follows.2.1 told) is in
     let seen_as : SeenAs (view_of c.in-Some.line) (Heads (Awaits c.in-Heads-Awaits.opening)) =
     λ bytes e. subst (LineIs bytes) (c.in-Heads-Awaits.is ∙ ap (λ (head : Head). Heads head) c.in-Heads-Awaits.field-0-is) (c.in_ok-read_script_line.ensures.line bytes e) in
-    let wants = wants-memory c.args.cutter.now cur after (g.S.Source.left c.args.input.now) left rest (view_of c.in-Some.line) (was.lines told seen)
-    (next-line cur after follows.0 left rest (view_of c.in-Some.line) gives (follows.2.1 (rw was.tells told)) (ended told seen))
+    let wants = wants-memory c.args.cutter.now cur after (g.S.Source.left c.args.input.now) left rest (view_of c.in-Some.line) (was.lines (follows.2.0 told) seen)
+    (next-line cur after follows.0 left rest (view_of c.in-Some.line) gives (follows.2.1 told) (ended told seen))
     (λ bytes e. inr (c.in-Heads-Awaits.opening, (seen_as bytes e).1)) lines is in
     stop-wants c.from_residual-in_err-body-in-Heads-Awaits.result lines wants
+
+pub returns-in_err-line-clause-waits : goal.returns-in_err-line-clause-waits
+returns-in_err-line-clause-waits g c = λ told seen lines is.
+    let was = c.loop-line.invariant in
+    let cur = c.loop-line.cutter in
+    let after = c.next.follows.lender-at-none in
+    let follows = c.next.follows.holds-at-none in
+    let stops : IsStopped cur after follows.0 c.in_err-line.field-0.0 = rw c.in_err-line.was at follows.1 in
+    stop-waits c.from_residual.result (WaitsForMore c.args.cutter.now after lines)
+    (waits-between c.args.cutter.now cur after (g.S.Source.left c.args.input.now) (g.S.Source.left c.loop-line.input) (was.lines (follows.2.0 told) seen) stops.takes.number stops.waits stops.unended lines is)
+
+pub returns-in_err-body-in-Heads-Awaits-clause-waits : goal.returns-in_err-body-in-Heads-Awaits-clause-waits
+returns-in_err-body-in-Heads-Awaits-clause-waits g c = λ behind seen lines is.
+    let told = c.read_script_body.ensures.taken.0 behind in
+    let was = c.loop-line.invariant in
+    let cur = c.loop-line.cutter in
+    let after = c.next.follows.lender-at-none in
+    let follows = c.next.follows.holds-at-none in
+    let left = g.S.Source.left c.loop-line.input in
+    let rest = g.S.Source.left c.next.new.input in
+    let gives : GivesLine cur after follows.0 (view_of c.in-Some.line) = rw (c.in_ok-line.was, c.in-Some.is) at follows.1 in
+    let ended : IsTrue (g.S.Source.tells c.next.new.input) → HasSeenAll c.args.cutter.now (g.S.Source.left c.args.input.now) → after.has_ended ≡ true → rest ≡ [] =
+    λ told seen is.
+    ended-left cur.has_ended after.has_ended left follows.0 rest (was.ended (follows.2.0 told) seen) (λ opened ends. follows.3 opened ends told) (follows.2.1 told) is in
+    let seen_as : SeenAs (view_of c.in-Some.line) (Heads (Awaits c.in-Heads-Awaits.opening)) =
+    λ bytes e. subst (LineIs bytes) (c.in-Heads-Awaits.is ∙ ap (λ (head : Head). Heads head) c.in-Heads-Awaits.field-0-is) (c.in_ok-read_script_line.ensures.line bytes e) in
+    waits-passed c.from_residual-in_err-body-in-Heads-Awaits.result c.in_err-body-in-Heads-Awaits.field-0.0 (WaitsForMore c.args.cutter.now c.read_script_body.new.cutter lines)
+    c.from_residual-in_err-body-in-Heads-Awaits.ensures.1
+    (λ not. waits-body c.args.cutter.now cur after c.read_script_body.new.cutter (g.S.Source.left c.args.input.now) left rest (view_of c.in-Some.line) c.in-Heads-Awaits.opening
+    (was.lines (follows.2.0 told) seen)
+    (next-line cur after follows.0 left rest (view_of c.in-Some.line) gives (follows.2.1 told) (ended told seen))
+    gives.number seen_as (λ behind_lines to_come. c.in_err-body-in-Heads-Awaits.ensures.waits behind (ended told seen) behind_lines to_come not) lines is)

@@ -1,18 +1,19 @@
 use Rattle.std.proofs.Common.{◌≡◌, ◌++◌, ◌+◌, true, [], IsTrue, refl, ◌∙◌, arith}
 use Rattle.ts_script.specs.Cutting.{view_of, GivesLine, HasEnded, HasSeenAll, IsStopped}
-use Rattle.ts_script.proofs.CuttingLemmas.{next-line, next-none, left-left, took-took, ended-left}
-use Rattle.ts_script.proofs.BodyUpTo.{body-more, body-closed, body-open, some-more, some-closed, some-open, ends-by, goes_on-by}
+use Rattle.ts_script.specs.Next.{WaitsForEnd}
+use Rattle.ts_script.proofs.CuttingLemmas.{next-line, next-none, ended-left, left-left, took-bytes, took-end, took-line, took-nothing}
+use Rattle.ts_script.proofs.BodyUpTo.{body-waits, stop-waits, body-more, body-closed, body-open, some-more, some-closed, some-open, ends-by, goes_on-by}
 use Rattle.ts_script.proofs.script_body.read_script_body.Goals as goal
 
 pub loop-body-init : goal.loop-body-init
 loop-body-init g c = record {
-  tells = refl;
+  tells = λ told. told;
   faults = refl;
   ended = λ told seen. seen;
   lines = λ told seen lines is. record { done = []; rest = lines; parts = refl; to_come = is; number = omega arith; goes_on = tt; read = c.new-body.ensures c.args.cutter.now.number };
   some = record { done = []; count = omega arith; goes_on = tt; read = c.new-body.ensures c.args.cutter.now.number };
   offset = omega arith;
-  taken = ([], record { taken = omega arith; limit = refl }, λ told. refl);
+  taken = ([], took-nothing c.args.cutter.now, λ told. refl);
 }
 
 pub loop-body-preserved : goal.loop-body-preserved
@@ -25,17 +26,17 @@ loop-body-preserved g c =
     let rest = g.S.Source.left c.next.new.input in
     let gives : GivesLine cur after follows.0 (view_of c.in-Some.line) = rw (c.in_ok-line.was, c.in-Some.is) at follows.1 in
     let number : c.in-Some.line.number ≡ cur.number + 1 = rw c.in-Some.is at c.in_ok-line.ensures.number in
-    let ended : IsTrue (g.S.Source.tells c.args.input.now) → HasSeenAll c.args.cutter.now (g.S.Source.left c.args.input.now) → after.has_ended ≡ true → rest ≡ [] =
-    λ told seen is. let tells : IsTrue (g.S.Source.tells c.loop-body.input) = rw was.tells told in
-    ended-left cur.has_ended after.has_ended left follows.0 rest (was.ended told seen) (λ opened ends. follows.3 opened ends tells) (follows.2.1 tells) is in
+    let ended : IsTrue (g.S.Source.tells c.next.new.input) → HasSeenAll c.args.cutter.now (g.S.Source.left c.args.input.now) → after.has_ended ≡ true → rest ≡ [] =
+    λ told seen is.
+    ended-left cur.has_ended after.has_ended left follows.0 rest (was.ended (follows.2.0 told) seen) (λ opened ends. follows.3 opened ends told) (follows.2.1 told) is in
     record {
-      tells = follows.2.0 ∙ was.tells;
+      tells = λ told. was.tells (follows.2.0 told);
       faults = c.in_ok-line.ensures.counts ∙ was.faults;
       ended = ended;
       lines = λ told seen. body-more c.args.cutter.now cur after (g.S.Source.left c.args.input.now) left rest
           c.loop-body.body.signed.items c.add.new.self.signed.items c.loop-body.body.fault c.add.new.self.fault c.in-Some.line
-          (was.lines told seen)
-          (next-line cur after follows.0 left rest (view_of c.in-Some.line) gives (follows.2.1 (rw was.tells told)) (ended told seen))
+          (was.lines (follows.2.0 told) seen)
+          (next-line cur after follows.0 left rest (view_of c.in-Some.line) gives (follows.2.1 told) (ended told seen))
           gives.number number (goes_on-by (view_of c.in-Some.line) c.ends_body.result c.ends_body.ensures c.if-ends_body.false) c.in_ok-add.ensures;
       some = some-more c.args.cutter.now.number cur after follows.0
           c.loop-body.body.signed.items c.add.new.self.signed.items c.loop-body.body.fault c.add.new.self.fault c.in-Some.line
@@ -43,8 +44,8 @@ loop-body-preserved g c =
       offset = omega (arith, was.offset, gives.offset);
       taken = (
         was.taken.0 ++ follows.0,
-        took-took c.args.cutter.now cur after was.taken.0 follows.0 was.taken.1 gives.taken gives.limit,
-        λ told. left-left (g.S.Source.left c.args.input.now) was.taken.0 follows.0 left rest (was.taken.2 told) (follows.2.1 (rw was.tells told)),
+        took-line c.args.cutter.now cur after was.taken.0 follows.0 (view_of c.in-Some.line) was.taken.1 gives,
+        λ told. left-left (g.S.Source.left c.args.input.now) was.taken.0 follows.0 left rest (was.taken.2 (follows.2.0 told)) (follows.2.1 told),
       );
     }
 
@@ -57,12 +58,11 @@ returns-then-ends_body-clause-body g c = λ told seen.
     let left = g.S.Source.left c.loop-body.input in
     let rest = g.S.Source.left c.next.new.input in
     let gives : GivesLine cur after follows.0 (view_of c.in-Some.line) = rw (c.in_ok-line.was, c.in-Some.is) at follows.1 in
-    let tells : IsTrue (g.S.Source.tells c.loop-body.input) = rw was.tells told in
     let ended : HasSeenAll after rest =
-    λ is. ended-left cur.has_ended after.has_ended left follows.0 rest (was.ended told seen) (λ opened ends. follows.3 opened ends tells) (follows.2.1 tells) is in
+    λ is. ended-left cur.has_ended after.has_ended left follows.0 rest (was.ended (follows.2.0 told) seen) (λ opened ends. follows.3 opened ends told) (follows.2.1 told) is in
     body-closed c.args.cutter.now cur after (g.S.Source.left c.args.input.now) left rest c.loop-body.body.signed.items c.loop-body.body.fault c.into_read.result (view_of c.in-Some.line)
-    (was.lines told seen)
-    (next-line cur after follows.0 left rest (view_of c.in-Some.line) gives (follows.2.1 tells) ended)
+    (was.lines (follows.2.0 told) seen)
+    (next-line cur after follows.0 left rest (view_of c.in-Some.line) gives (follows.2.1 told) ended)
     gives.number (ends-by (view_of c.in-Some.line) c.ends_body.result c.ends_body.ensures c.if-ends_body.true) ended c.into_read.ensures
 
 pub returns-then-ends_body-clause-some : goal.returns-then-ends_body-clause-some
@@ -81,11 +81,11 @@ returns-then-ends_body-clause-taken g c =
     let after = c.next.follows.lender-at-none in
     let follows = c.next.follows.holds-at-none in
     let gives : GivesLine cur after follows.0 (view_of c.in-Some.line) = rw (c.in_ok-line.was, c.in-Some.is) at follows.1 in (
-      follows.2.0 ∙ was.tells,
+      λ told. was.tells (follows.2.0 told),
       λ told. (
         was.taken.0 ++ follows.0,
-        took-took c.args.cutter.now cur after was.taken.0 follows.0 was.taken.1 gives.taken gives.limit,
-        left-left (g.S.Source.left c.args.input.now) was.taken.0 follows.0 (g.S.Source.left c.loop-body.input) (g.S.Source.left c.next.new.input) (was.taken.2 told) (follows.2.1 (rw was.tells told)),
+        took-line c.args.cutter.now cur after was.taken.0 follows.0 (view_of c.in-Some.line) was.taken.1 gives,
+        left-left (g.S.Source.left c.args.input.now) was.taken.0 follows.0 (g.S.Source.left c.loop-body.input) (g.S.Source.left c.next.new.input) (was.taken.2 (follows.2.0 told)) (follows.2.1 told),
       ),
     )
 
@@ -97,11 +97,10 @@ returns-clause-body g c = λ told seen.
     let follows = c.next.follows.holds-at-none in
     let left = g.S.Source.left c.loop-body.input in
     let rest = g.S.Source.left c.next.new.input in
-    let tells : IsTrue (g.S.Source.tells c.loop-body.input) = rw was.tells told in
     let ends : HasEnded cur after follows.0 = rw (c.in_ok-line.was, c.in_default.is) at follows.1 in
-    let none : rest ≡ [] = ended-left cur.has_ended after.has_ended left follows.0 rest (was.ended told seen) (λ opened ends. follows.3 opened ends tells) (follows.2.1 tells) ends.ended in
+    let none : rest ≡ [] = ended-left cur.has_ended after.has_ended left follows.0 rest (was.ended (follows.2.0 told) seen) (λ opened ends. follows.3 opened ends told) (follows.2.1 told) ends.ended in
     body-open c.args.cutter.now cur after (g.S.Source.left c.args.input.now) left rest c.loop-body.body.signed.items c.loop-body.body.fault c.into_read-2.result
-    (was.lines told seen) (next-none cur after follows.0 left rest ends (follows.2.1 tells) none) ends.after ends.number none c.into_read-2.ensures
+    (was.lines (follows.2.0 told) seen) (next-none cur after follows.0 left rest ends (follows.2.1 told) none) ends.after ends.number ends.ended none c.into_read-2.ensures
 
 pub returns-clause-some : goal.returns-clause-some
 returns-clause-some g c =
@@ -118,11 +117,11 @@ returns-clause-taken g c =
     let after = c.next.follows.lender-at-none in
     let follows = c.next.follows.holds-at-none in
     let ends : HasEnded cur after follows.0 = rw (c.in_ok-line.was, c.in_default.is) at follows.1 in (
-      follows.2.0 ∙ was.tells,
+      λ told. was.tells (follows.2.0 told),
       λ told. (
         was.taken.0 ++ follows.0,
-        took-took c.args.cutter.now cur after was.taken.0 follows.0 was.taken.1 ends.taken ends.limit,
-        left-left (g.S.Source.left c.args.input.now) was.taken.0 follows.0 (g.S.Source.left c.loop-body.input) (g.S.Source.left c.next.new.input) (was.taken.2 told) (follows.2.1 (rw was.tells told)),
+        took-end c.args.cutter.now cur after was.taken.0 follows.0 was.taken.1 ends,
+        left-left (g.S.Source.left c.args.input.now) was.taken.0 follows.0 (g.S.Source.left c.loop-body.input) (g.S.Source.left c.next.new.input) (was.taken.2 (follows.2.0 told)) (follows.2.1 told),
       ),
     )
 
@@ -133,11 +132,11 @@ returns-in_err-line-clause-taken g c =
     let after = c.next.follows.lender-at-none in
     let follows = c.next.follows.holds-at-none in
     let stops : IsStopped cur after follows.0 c.in_err-line.field-0.0 = rw c.in_err-line.was at follows.1 in (
-      follows.2.0 ∙ was.tells,
+      λ told. was.tells (follows.2.0 told),
       λ told. (
         was.taken.0 ++ follows.0,
-        took-took c.args.cutter.now cur after was.taken.0 follows.0 was.taken.1 stops.takes.taken stops.takes.limit,
-        left-left (g.S.Source.left c.args.input.now) was.taken.0 follows.0 (g.S.Source.left c.loop-body.input) (g.S.Source.left c.next.new.input) (was.taken.2 told) (follows.2.1 (rw was.tells told)),
+        took-bytes c.args.cutter.now cur after was.taken.0 follows.0 was.taken.1 stops.takes,
+        left-left (g.S.Source.left c.args.input.now) was.taken.0 follows.0 (g.S.Source.left c.loop-body.input) (g.S.Source.left c.next.new.input) (was.taken.2 (follows.2.0 told)) (follows.2.1 told),
       ),
     )
 
@@ -148,10 +147,21 @@ returns-in_err-add-clause-taken g c =
     let after = c.next.follows.lender-at-none in
     let follows = c.next.follows.holds-at-none in
     let gives : GivesLine cur after follows.0 (view_of c.in-Some.line) = rw (c.in_ok-line.was, c.in-Some.is) at follows.1 in (
-      follows.2.0 ∙ was.tells,
+      λ told. was.tells (follows.2.0 told),
       λ told. (
         was.taken.0 ++ follows.0,
-        took-took c.args.cutter.now cur after was.taken.0 follows.0 was.taken.1 gives.taken gives.limit,
-        left-left (g.S.Source.left c.args.input.now) was.taken.0 follows.0 (g.S.Source.left c.loop-body.input) (g.S.Source.left c.next.new.input) (was.taken.2 told) (follows.2.1 (rw was.tells told)),
+        took-line c.args.cutter.now cur after was.taken.0 follows.0 (view_of c.in-Some.line) was.taken.1 gives,
+        left-left (g.S.Source.left c.args.input.now) was.taken.0 follows.0 (g.S.Source.left c.loop-body.input) (g.S.Source.left c.next.new.input) (was.taken.2 (follows.2.0 told)) (follows.2.1 told),
       ),
     )
+
+pub returns-in_err-line-clause-waits : goal.returns-in_err-line-clause-waits
+returns-in_err-line-clause-waits g c = λ told seen lines is.
+    let was = c.loop-body.invariant in
+    let cur = c.loop-body.cutter in
+    let after = c.next.follows.lender-at-none in
+    let follows = c.next.follows.holds-at-none in
+    let stops : IsStopped cur after follows.0 c.in_err-line.field-0.0 = rw c.in_err-line.was at follows.1 in
+    stop-waits c.from_residual.result (WaitsForEnd c.args.cutter.now after lines)
+    (body-waits c.args.cutter.now cur after (g.S.Source.left c.args.input.now) (g.S.Source.left c.loop-body.input) c.loop-body.body.signed.items c.loop-body.body.fault
+    (was.lines (follows.2.0 told) seen) stops.takes.number stops.waits stops.unended lines is)

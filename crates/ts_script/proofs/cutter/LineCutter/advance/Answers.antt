@@ -27,9 +27,9 @@ loop-span-preserved g c =
       so_far.0 ++ more.0,
       record {
         takes = takes-takes c.args.self.now c.whole_line.new.self c.fill.new.self so_far.0 more.0 kept more.1.takes;
-        tells = more.2.0 ∙ so_far.1.tells;
-        left = λ told. left-left _ so_far.0 more.0 _ _ (so_far.1.left told) (more.2.1 (rw so_far.1.tells told));
-        ended = λ _ is told. c.in_default-fill.ensures.ended is (rw so_far.1.tells told);
+        tells = λ told. so_far.1.tells (more.2.0 told);
+        left = λ told. left-left _ so_far.0 more.0 _ _ (so_far.1.left (more.2.0 told)) (more.2.1 told);
+        ended = λ _ is told. c.in_default-fill.ensures.ended is told;
         closed = λ is. absurd (apart c.loop-span.self.has_ended c.whole_line.new.self.has_ended (so_far.1.takes.ended is) c.in_default.ensures.none.has_ended c.if-self.false);
         lazy = λ has. absurd (c.in_default.ensures.waits (subst HasWholeLine (sym (so_far.1.lazy has).0) has));
         faults = c.in_default-fill.ensures.counts ∙ so_far.1.faults;
@@ -45,11 +45,12 @@ returns-in-Err-clause-next g c =
       record {
         takes = takes-takes c.args.self.now c.whole_line.new.self c.fill.new.self so_far.0 more.0 kept more.1.takes;
         waits = more.1.cause.1;
+        unended = more.1.cause.2;
         limited = λ is. absurd (fault_is_not_limit (sym more.1.cause.0 ∙ is));
       },
       (
-        more.2.0 ∙ so_far.1.tells,
-        λ told. left-left _ so_far.0 more.0 _ _ (so_far.1.left told) (more.2.1 (rw so_far.1.tells told)),
+        λ told. so_far.1.tells (more.2.0 told),
+        λ told. left-left _ so_far.0 more.0 _ _ (so_far.1.left (more.2.0 told)) (more.2.1 told),
       ),
     )
 

@@ -7,9 +7,9 @@ abbrev pub invariant-loop-span : goal.invariant-loop-span
 invariant-loop-span g l =
     (bytes : List ℕ) × record {
       takes : Takes l.initial.self l.self bytes;
-      tells : g.S.Source.tells l.input ≡ g.S.Source.tells l.initial.input;
-      left : IsTrue (g.S.Source.tells l.initial.input) → g.S.Source.left l.initial.input ≡ bytes ++ g.S.Source.left l.input;
-      ended : l.initial.self.has_ended ≡ false → l.self.has_ended ≡ true → IsTrue (g.S.Source.tells l.initial.input) → g.S.Source.left l.input ≡ [];
+      tells : IsTrue (g.S.Source.tells l.input) → IsTrue (g.S.Source.tells l.initial.input);
+      left : IsTrue (g.S.Source.tells l.input) → g.S.Source.left l.initial.input ≡ bytes ++ g.S.Source.left l.input;
+      ended : l.initial.self.has_ended ≡ false → l.self.has_ended ≡ true → IsTrue (g.S.Source.tells l.input) → g.S.Source.left l.input ≡ [];
       closed : l.initial.self.has_ended ≡ true → l.input ≡ l.initial.input;
       lazy : HasWholeLine l.initial.self → (l.self ≡ l.initial.self) × (l.input ≡ l.initial.input);
       faults : g.S.Source.faults l.input ≡ g.S.Source.faults l.initial.input;
