@@ -163,7 +163,7 @@ class Store:
             for triple in remove:
                 body.write(f"- {spelled_triple(triple)}\n".encode())
             for line in body_lines(add):
-                body.write(line.encode())
+                body.write(f"{line}\n".encode())
             body.seek(0)
             return self._session.make(command, body, _LAYER)[1]
 
