@@ -55,8 +55,8 @@ def test_terms(main):
 
 
 def test_terms_that_are_none(main):
-    bad = [Blank(it) for it in EVIL if it != "e\u0301"] + [Blank("a."), Blank(".a"), Blank("-a"), Blank("a\n"), Blank(None), Blank("\ud800")]
-    bad += [Literal("a", language=it) for it in EVIL + ["en\n", "en-", "1", "e n", "é", "\ud800"] if it not in ("*",)]
+    bad = [Blank(it) for it in EVIL if it not in ("e\u0301", "_:b")] + [Blank("a."), Blank(".a"), Blank("-a"), Blank("a\n"), Blank(None), Blank("\ud800")]
+    bad += [Literal("a", language=it) for it in EVIL + ["en\n", "en-", "1", "e n", "é", "\ud800"]]
     bad += [Literal("a", "t", "en"), Literal(None), IRI(None), IRI("\ud800"), Literal("\udfff"), Literal("a", "\ud800"), Literal("a", 5)]
     bad += ["a", "<a", "<a b>", "<a\n>", '"a', '"a\n"', '"a"@', '"\\x"', '"\\uD800"', '"\\U00110000"', "_:", "_:a.", "<a>\n", " <a>", "", None, 5, b"<a>"]
     bad += [IRI("a" * 1_048_575), Literal("a" * 1_048_575), Literal('"' * 524_288), '"' + "é" * 524_288 + '"']
@@ -99,15 +99,18 @@ _:a\u00b7 _:\u00d7 "x" "x"@en "x"@en-a1 "x"@en- "x"@1 "x"^^<t> "x"^^ "x"^^<a\\u0
 "\\uDFFF" "\t" "a\u2028b" "a\x0bb" "\u00e9"@fr 'x' . . . .. , ; + - # #x \t \t \xa0 \x0b end end. \ufeff \x00 * @main""".split(" ")
 
 
+SUBJECTS = ["<a>", "_:a", "_:a.b", "_:0", "_::", "<\\u00E9>", "<>", "_:a\u00b7"]
+PREDICATES = ["<a>", "<>", "<http://e/\u00e9>", "<a\\u0020b>"]
+OBJECTS = [*SUBJECTS, '"x"', '"x"@en', '"x"@en-a1', '"x"^^<t>', '"x"^^<a\\u000Ab>', '"x"^^<http://www.w3.org/2001/XMLSchema#string>', '"\\u0078"', '"\\""', '"\\\\"', '"\t"']
+
+
 def line_of(draw):
-    """A line of a body that is one by luck."""
-    if draw.random() < 0.7:
-        line = [draw.choice(["", "+", "-", "+ ", " - "]), draw.choice(PARTS[:30]), draw.choice(PARTS[:12]), draw.choice(PARTS), ".", draw.choice(["", "# x", ""])]
-        if draw.random() < 0.3:
-            line[draw.randrange(6)] = draw.choice(PARTS)
-    else:
-        line = [draw.choice(PARTS) for _ in range(draw.randrange(6))]
-    return draw.choice(["", " ", " ", "\t"]).join(it.replace("\n", "") for it in line)
+    """A line of a body, with something wrong in it now and then."""
+    blank = draw.choice(["", " ", " ", "\t"])
+    line = [draw.choice(["", "+", "-"]), draw.choice(SUBJECTS), draw.choice(PREDICATES), draw.choice(OBJECTS), ".", draw.choice(["", "# x"])]
+    for _ in range(draw.choice([0, 0, 0, 1, 2])):
+        line[draw.randrange(6)] = draw.choice(PARTS)
+    return blank.join(line).replace("\n", "") if draw.random() < 0.9 else draw.choice(PARTS).replace("\n", "")
 
 
 def test_the_client_reads_lines_as_the_program_does(folder, draw):

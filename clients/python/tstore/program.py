@@ -140,6 +140,8 @@ class Program:
         status = self._process.wait()
         while self._hears and self._hear():
             pass
+        if self._begun:
+            self._said = self._begun.decode(errors="replace")
         self._output.close()
         self._errors.close()
         return status
