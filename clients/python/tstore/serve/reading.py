@@ -52,7 +52,7 @@ async def sent(body: IO[bytes]) -> AsyncIterator[bytes]:
 
 
 def as_response(done: Done, media: str, headers: dict[str, str]) -> Response:
-    return StreamingResponse(sent(done.body), headers={**headers, "Content-Length": str(done.size)}, media_type=media)
+    return StreamingResponse(sent(done.body), headers={**headers, "Content-Length": str(done.size), "Content-Type": media})
 
 
 class Reading:
@@ -151,7 +151,7 @@ class Reading:
     ) -> Response:
         """A listing: N-Triples as they come, and other formats from a worker."""
         if request.method == "HEAD":
-            return Response(headers=headers, media_type=form.media)
+            return Response(headers={**headers, "Content-Type": form.media})
         reader = target.snapshot.reader
         if form is not N_TRIPLES:
             job = {"kind": "graph", "layer": target.layer, "form": form.name, "listing": question}
@@ -168,7 +168,7 @@ class Reading:
                     yield it
                     it = await piece()
 
-        return StreamingResponse(lines(), headers=headers, media_type=form.media)
+        return StreamingResponse(lines(), headers={**headers, "Content-Type": form.media})
 
     async def sparql(self, request: Request) -> Response:
         """The query operation of the SPARQL 1.1 Protocol."""
