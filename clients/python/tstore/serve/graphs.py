@@ -14,8 +14,9 @@ from .nodes import Node, Triple, read_line, spelled_node, stored
 from .turtle import cut
 
 Pattern = tuple[Optional[Node], Optional[Node], Optional[Node]]
-# An evaluation that has asked so often, over a layer of so few triples, goes on over all of them in memory: each question costs a turn.
-_ASKED = 40
+# A question costs a turn, about what reading so many triples does: once the questions have cost what reading the whole layer would, and
+# it isn't too large, an evaluation goes on over all of it in memory.
+_TURN = 500
 _SMALL = 250_000
 
 
@@ -90,6 +91,7 @@ class Layer:
         self.name = name
         self._channel = channel
         self._whole = None if name else Indexed([])
+        self._count: Optional[int] = None
         self.begin()
 
     def begin(self) -> None:
@@ -118,14 +120,16 @@ class Layer:
         if self._whole is None:
             question = asked(pattern)
             self._asked += 1
-            if self._asked <= _ASKED or self.count() > _SMALL:
+            if self._asked == 1 or not self._asked * _TURN >= self.count() <= _SMALL:
                 return map(read_line, Listing(self, question).lines())
             self._whole = Indexed(list(map(read_line, self.lines())))
         return self._whole.fitting(pattern)
 
     def count(self) -> int:
         """How many triples there are."""
-        return int(self.ask({"ask": "count"})[0]["count"]) if self.name else 0
+        if self._count is None:
+            self._count = int(self.ask({"ask": "count"})[0]["count"]) if self.name else 0
+        return self._count
 
     def lines(self) -> Iterator[str]:
         """All triples as lines."""

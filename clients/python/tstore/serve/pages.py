@@ -4,6 +4,7 @@ from __future__ import annotations
 
 import asyncio
 import json
+import math
 import os
 import time
 from typing import Any, NamedTuple, Optional
@@ -42,6 +43,13 @@ class Changes(NamedTuple):
 
     added: int
     removed: int
+
+
+class Bars(NamedTuple):
+    """How long the bars of a layer's changes are, of at most 98."""
+
+    added: float
+    removed: float
 
 
 class Row(NamedTuple):
@@ -93,12 +101,11 @@ class Pages:
         before = parameters(request).one("before")
         numbers = sorted((it for it in snapshot.layers if not before or it < before), reverse=True)
         rows = [await self._row(snapshot, layer) for layer in numbers[:_LAYERS]]
-        most = max((max(it.changes) for it in rows), default=0) or 1
+        most = max((max(it.changes) for it in rows), default=0)
         return self._page(
             "history",
             title="History",
-            rows=rows,
-            most=most,
+            rows=[{**it._asdict(), "bars": _bars(it.changes, most)} for it in rows],
             pitch=ROW,
             picture=picture([(it.layer, it.parent) for it in rows]),
             labels=list(snapshot.labels.values()),
@@ -274,6 +281,12 @@ class Pages:
         done = await self._services.pool.do(job, text.encode(errors="replace"), target.snapshot.reader)
         with done.body as body:
             return await asyncio.get_running_loop().run_in_executor(None, _tabled, body.read(), done.head["form"], target.path)
+
+
+def _bars(changes: Changes, most: int) -> Bars:
+    """Bars by the logarithm: a base of a million triples and a change of one are both to be seen."""
+    full = math.log1p(most) or 1.0
+    return Bars(*(98 * math.log1p(it) / full for it in changes))
 
 
 def _tabled(body: bytes, form: str, path: str) -> dict[str, Any]:

@@ -7,12 +7,15 @@ import multiprocessing
 import socket
 import tempfile
 from collections import deque
-from typing import IO, NamedTuple, Optional
+from contextlib import AsyncExitStack
+from typing import IO, Callable, NamedTuple, Optional
 
+from ..listings import Triples
+from ..store import Store
 from .frames import Head, packed, read_head
 from .problems import Problem
 from .settings import Settings
-from .snapshots import Reader, cursor
+from .snapshots import Pieces, Reader, cursor
 from .worker import run
 
 _IN_MEMORY = 1 << 20
@@ -37,8 +40,8 @@ class Listings:
     def __init__(self, reader: Reader, layer: Optional[str]) -> None:
         self._reader = reader
         self._layer = layer
-        self._open: Optional[object] = None
-        self._next: Optional[object] = None
+        self._open = AsyncExitStack()
+        self._next: Optional[Pieces] = None
 
     async def answer(self, head: Head) -> bytes:
         """The reply to a question, as a message."""
@@ -51,20 +54,19 @@ class Listings:
             return packed({"has": await self._reader.do(lambda store: store.has(layer, (subject, predicate, object)))})
         if kind != "fetch":
             await self.close()
-            self._open = self._reader.listing(_command(head, layer))
-            self._next = await self._open.__aenter__()  # type: ignore[attr-defined]
-        lines = await self._next() if self._next else b""  # type: ignore[operator]
-        if not lines:
+            self._next = await self._open.enter_async_context(self._reader.listing(_command(head, layer)))
+        lines = await self._next() if self._next else b""
+        more = self._next is not None and self._next.has_more
+        if not more:
             await self.close()
-        return packed({"more": bool(lines)}, lines)
+        return packed({"more": more}, lines)
 
     async def close(self) -> None:
-        if self._open is not None:
-            listing, self._open, self._next = self._open, None, None
-            await listing.__aexit__(None, None, None)  # type: ignore[attr-defined]
+        self._next = None
+        await self._open.aclose()
 
 
-def _command(head: Head, layer: str) -> object:
+def _command(head: Head, layer: str) -> Callable[[Store], Triples]:
     if head["ask"] == "added":
         return lambda store: store.added(layer)
     if head["ask"] == "removed":

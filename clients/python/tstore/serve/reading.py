@@ -10,6 +10,7 @@ from typing import IO, Any, AsyncIterator, Callable, Optional
 from starlette.requests import Request
 from starlette.responses import Response, StreamingResponse
 
+from ..listings import Triples
 from ..store import Store
 from . import requests
 from .conditions import is_known
@@ -134,7 +135,7 @@ class Reading:
             if known := unchanged(request, headers):
                 return known
 
-            def command(store: Store) -> Any:
+            def command(store: Store) -> Triples:
                 return store.added(layer) if kind == "added" else store.removed(layer)
 
             return await self._listing(request, target, form, headers, command, {"ask": kind}, stack)
@@ -145,7 +146,7 @@ class Reading:
         target: Target,
         form: Format,
         headers: dict[str, str],
-        command: Callable[[Store], Any],
+        command: Callable[[Store], Triples],
         question: dict[str, Any],
         stack: AsyncExitStack,
     ) -> Response:

@@ -14,10 +14,10 @@ import tempfile
 import time
 from concurrent.futures import ThreadPoolExecutor
 from contextlib import asynccontextmanager
-from typing import Any, AsyncIterator, Callable, Optional, TypeVar
+from typing import AsyncIterator, Callable, Optional, TypeVar
 
 from ..errors import Error
-from ..listings import Cursor
+from ..listings import Cursor, Triples
 from ..store import Label, Store
 from .problems import Problem
 from .settings import Settings
@@ -31,6 +31,34 @@ _PIECE = 2_048
 # Times of a folder have the steps of the kernel's clock: a change within one step of another may leave no sign.
 _CLOCK = 0.05
 _PATIENCE = 2.0
+
+
+class Pieces:
+    """A listing: a call awaits its next piece, which is whole lines, and none at the end. The first one comes as it is opened."""
+
+    def __init__(self, reader: Reader, triples: Triples) -> None:
+        self._reader = reader
+        self._triples = triples
+        self._pieces = triples.pieces()
+        self._first: Optional[bytes] = next(self._pieces, b"")
+        self.has_more = self._goes_on(self._first)
+
+    async def __call__(self) -> bytes:
+        if self._first is not None:
+            lines, self._first = self._first, None
+        elif self.has_more:
+            lines = await self._reader.do(lambda _: next(self._pieces, b""))
+            self.has_more = self._goes_on(lines)
+        else:
+            lines = b""
+        return lines
+
+    def _goes_on(self, lines: bytes) -> bool:
+        """Whether more may come. A cursor is closed with its last piece."""
+        return bool(lines) and not (isinstance(self._triples, Cursor) and not self._triples.is_open)
+
+    def end(self) -> None:
+        self._triples.close()
 
 
 class Reader:
@@ -55,16 +83,15 @@ class Reader:
             self.waiting -= 1
 
     @asynccontextmanager
-    async def listing(self, command: Callable[[Store], Any]) -> AsyncIterator[Callable[[], Any]]:
-        """A listing, by a call that awaits its next piece: whole lines, and none at the end. It gives its cursor back whatever happens."""
+    async def listing(self, command: Callable[[Store], Triples]) -> AsyncIterator[Pieces]:
+        """A listing in pieces. It gives its cursor back whatever happens."""
         async with self._cursors:
-            found = await self.do(lambda store: command(store))
-            pieces = found.pieces()
+            pieces = await self.do(lambda store: Pieces(self, command(store)))
             try:
-                yield lambda: self.do(lambda _: next(pieces, b""))
+                yield pieces
             finally:
-                if not self._store.is_closed:
-                    await asyncio.shield(asyncio.ensure_future(self.do(lambda _: found.close())))
+                if pieces.has_more and not self._store.is_closed:
+                    await asyncio.shield(asyncio.ensure_future(self.do(lambda _: pieces.end())))
 
     def close(self) -> None:
         def end() -> None:

@@ -82,7 +82,7 @@ def turtle(lines: list[str]) -> Iterator[str]:
         subject, predicate, object = cut(line)
         verb = "a" if predicate == _TYPE else prefixes.short(predicate)
         if subject != before:
-            yield f"{' .' if before else ''}\n\n{prefixes.short(subject)} {verb} {prefixes.short(object)}"
+            yield (" .\n\n" if before else "\n") + f"{prefixes.short(subject)} {verb} {prefixes.short(object)}"
         elif predicate != above:
             yield f" ;\n    {verb} {prefixes.short(object)}"
         else:
