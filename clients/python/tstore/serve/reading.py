@@ -28,13 +28,10 @@ _OTHER_GRAPHS = ("default-graph-uri", "named-graph-uri")
 
 
 def accepted(request: Request, given: Parameters) -> Optional[str]:
-    """What the request accepts: the parameter `format` where there is one, for links and forms, else the header."""
-    name = given.one("format")
-    if name is None:
-        return request.headers.get("accept")
-    if name not in _BY_NAME:
-        raise Problem(406, "not-acceptable", "format is one of " + ", ".join(_BY_NAME))
-    return _BY_NAME[name].bare
+    """What the request accepts: the parameter `format` where it is the word of a format, for links and forms, else the header. (Clients
+    are about that send it with other words, beside the header.)"""
+    form = _BY_NAME.get(given.first("format") or "")
+    return form.bare if form else request.headers.get("accept")
 
 
 def unchanged(request: Request, headers: dict[str, str]) -> Optional[Response]:

@@ -48,6 +48,8 @@ def refuse_tree(tree: Any) -> None:
             word = "WITH"
         if word is None and part.name in ("Clear", "Drop") and part.graphiri not in ("DEFAULT", "ALL", "NAMED"):
             word = "GRAPH"
+        if part.name == "InversePath":
+            raise Problem(400, "not-built", "an inverse predicate within !(..) isn't evaluated here")
         if word is not None:
             raise Problem(400, "refused", f"{word} is refused: a request has the one graph of its address")
 

@@ -37,6 +37,10 @@ class Parameters:
             raise Problem(400, "malformed", f"the parameter {name} is there more than once")
         return found[0] if found else None
 
+    def first(self, name: str) -> Optional[str]:
+        """A parameter that may be there more than once."""
+        return next((value for key, value in self._pairs if key == name), None)
+
     def refuse(self, *names: str) -> None:
         """400 where one of these is there: they name other graphs."""
         for key, _ in self._pairs:

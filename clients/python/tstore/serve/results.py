@@ -4,11 +4,11 @@ from __future__ import annotations
 
 import io
 import re
+from xml.sax.saxutils import escape, quoteattr
 from typing import Iterable, Iterator, Optional
 
 from rdflib.plugins.sparql.results.csvresults import CSVResultSerializer
 from rdflib.plugins.sparql.results.jsonresults import JSONResultSerializer
-from rdflib.plugins.sparql.results.xmlresults import XMLResultSerializer
 from rdflib.query import Result
 from rdflib.term import BNode, Literal, URIRef
 
@@ -36,6 +36,32 @@ def _tsv(result: Result) -> Iterator[str]:
     yield "\t".join(f"?{it}" for it in result.vars) + "\n"
     for row in result.bindings:
         yield "\t".join(spelled_result(row.get(it)).replace("\t", "\\t") for it in result.vars) + "\n"
+
+
+def _xml(result: Result) -> Iterator[str]:
+    """SPARQL Query Results XML Format. rdflib's own writer leaves out the text of a literal that Python takes for false."""
+    yield '<?xml version="1.0" encoding="UTF-8"?>\n<sparql xmlns="http://www.w3.org/2005/sparql-results#">\n<head>'
+    names = [] if result.type == "ASK" else result.vars
+    yield "".join(f"<variable name={quoteattr(str(it))}/>" for it in names) + "</head>\n"
+    if result.type == "ASK":
+        yield f"<boolean>{'true' if result.askAnswer else 'false'}</boolean>\n</sparql>\n"
+        return
+    yield "<results>\n"
+    for row in result.bindings:
+        bound = (f"<binding name={quoteattr(str(it))}>{_xml_term(row[it])}</binding>" for it in names if row.get(it) is not None)
+        yield "<result>" + "".join(bound) + "</result>\n"
+    yield "</results>\n</sparql>\n"
+
+
+def _xml_term(node: Node) -> str:
+    # A carriage return would be read as a line's end.
+    text = escape(str(node), {"\r": "&#13;"})
+    if isinstance(node, URIRef):
+        return f"<uri>{text}</uri>"
+    if isinstance(node, BNode):
+        return f"<bnode>{text}</bnode>"
+    kind = f" xml:lang={quoteattr(node.language)}" if node.language else f" datatype={quoteattr(str(node.datatype))}" if node.datatype else ""
+    return f"<literal{kind}>{text}</literal>"
 
 
 def _labelled(result: Result) -> Result:
@@ -69,9 +95,10 @@ def table(result: Result, form: str) -> bytes:
     if form == "csv":
         CSVResultSerializer(_labelled(result)).serialize(stream)
     elif form == "xml":
-        XMLResultSerializer(result).serialize(stream)
-        if _NOT_XML.search(stream.getvalue().decode()):
+        text = "".join(_xml(result))
+        if _NOT_XML.search(text):
             raise Problem(406, "not-acceptable", "XML has no words for a control character of the answer; JSON has")
+        return text.encode()
     else:
         JSONResultSerializer(result).serialize(stream, encoding="utf-8")
     return stream.getvalue()

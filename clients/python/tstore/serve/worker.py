@@ -22,6 +22,7 @@ from .bodies import lines_in
 from .formats import RESULTS
 from .frames import Channel, Head
 from .graphs import Gone, Layer, Listing, Overlay
+from .mended import mend
 from .problems import Problem
 from .query import answer
 from .update import update
@@ -91,6 +92,7 @@ def warm_up() -> None:
     """Does each kind of work once, so that whatever Python opens for it is open before nothing can be; in the process that workers are
     forked from."""
     rdflib.NORMALIZE_LITERALS = False
+    mend()
     graph = Graph()
     for form, body in (("ttl", b'@prefix x: <u:> . x:a x:b "c"@en, 1, 2.0, true .'), ("jsonld", b'{"@id": "u:a", "u:b": "c"}')):
         for line in lines_in(body, form, "u:"):
