@@ -85,6 +85,8 @@ def main() -> None:
     words = _arguments()
     host, port = _address(words.at)
     logging.basicConfig(level=logging.WARNING, format="%(name)s: %(message)s", stream=sys.stderr)
+    # It would write down requests that it can't read, and a token with them.
+    logging.getLogger("uvicorn.error").setLevel(logging.CRITICAL)
     try:
         listening = _socket(host, port)
         port = listening.getsockname()[1]

@@ -14,7 +14,9 @@ from starlette.responses import Response
 from starlette.routing import Route, Router
 
 from ..errors import Error, Refused
+
 from .formats import HTML, PLAIN_JSON, chosen
+from .http import HEAD_BYTES
 from .pages import Pages
 from .pool import Pool
 from .problems import Problem
@@ -98,6 +100,9 @@ class Application:
     async def answer(self, scope: dict[str, Any], receive: Any, send: Any) -> None:
         """Answers a request whose host is one of ours."""
         request = Request(scope)
+        head = len(scope["raw_path"]) + len(scope["query_string"]) + sum(len(name) + len(value) for name, value in scope["headers"])
+        if head > HEAD_BYTES:
+            raise Problem(431, "too-large", f"the head of a request has at most {HEAD_BYTES} bytes")
         if request.headers.get("host", "").lower() not in self.settings.names:
             raise Problem(421, "wrong-host", "this server has another name: it is started with --host NAME to be asked under one")
         scope["app"] = self

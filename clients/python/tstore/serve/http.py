@@ -11,7 +11,8 @@ import h11
 import uvicorn
 from uvicorn.protocols.http.h11_impl import H11Protocol
 
-_HEAD_BYTES = 64 << 10
+#: What a head may have, its lines and its address.
+HEAD_BYTES = 64 << 10
 _CONNECTIONS = 1_000
 _IDLE_SECONDS = 15
 _BACKLOG = 512
@@ -24,7 +25,7 @@ class Protocol(H11Protocol):  # type: ignore[misc]
 
     def __init__(self, *words: Any, **named: Any) -> None:
         super().__init__(*words, **named)
-        self.conn = h11.Connection(h11.SERVER, max_incomplete_event_size=_HEAD_BYTES)
+        self.conn = h11.Connection(h11.SERVER, max_incomplete_event_size=HEAD_BYTES)
         app = self.app
         self._head_timer: Optional[asyncio.TimerHandle] = None
 
