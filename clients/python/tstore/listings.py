@@ -70,13 +70,13 @@ class Listing(Triples):
 
     def close(self) -> None:
         self._ready = iter(())
-        self._reply.is_wanted = False
+        self._reply.give_up()
 
     def _piece(self) -> bytes:
         return self._session.piece(self._reply) if self._reply.is_wanted else b""
 
     def __del__(self) -> None:
-        self._reply.is_wanted = False
+        self._reply.give_up()
 
 
 class Cursor(Triples):

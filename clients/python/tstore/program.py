@@ -34,6 +34,7 @@ class Program:
             it.register(self._errors, select.POLLIN)
         self._come = b""
         self._begun = b""
+        self._hears = True
         self._said = ""
 
     @property
@@ -118,6 +119,7 @@ class Program:
         except BlockingIOError:
             return False
         if not piece:
+            self._hears = False
             self._reading.unregister(self._errors)
             self._writing.unregister(self._errors)
             return False
@@ -136,8 +138,10 @@ class Program:
     def _status(self) -> int:
         self._input.close()
         status = self._process.wait()
-        while self._hear():
+        while self._hears and self._hear():
             pass
+        if self._begun:
+            self._said = self._begun.decode(errors="replace")
         self._output.close()
         self._errors.close()
         return status

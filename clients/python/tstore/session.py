@@ -36,10 +36,10 @@ class Reply:
 
     def piece(self) -> bytes:
         """The next whole lines of triples; none at the end."""
-        if self._kept is not None:
-            lines = self._kept.read(_READ)
-            return lines if lines.endswith(b"\n") else lines + self._kept.readline()
-        return b"" if self.is_read else self._come()
+        if self._kept is None:
+            return b"" if self.is_read else self._come()
+        lines = self._kept.read(_READ)
+        return lines if lines.endswith(b"\n") else lines + self._kept.readline()
 
     def set_aside(self) -> None:
         """Reads the rest, so that another command can come: into memory, or into a file where it is large."""
@@ -51,10 +51,11 @@ class Reply:
         kept.seek(0)
         self._kept = kept
 
-    @property
-    def is_in_pipe(self) -> bool:
-        """Whether some of it is still to come from the program."""
-        return not self.is_read
+    def give_up(self) -> None:
+        """Says that nobody wants the rest; may be called at any moment."""
+        self.is_wanted = False
+        if self._kept is not None:
+            self._kept.close()
 
     def _come(self) -> bytes:
         lines, last = _front(self._program.lines())
@@ -128,7 +129,7 @@ class Session:
         """The next lines of a listing's reply; none at its end."""
         with self._lock:
             if reply is not self._reply or reply.is_read:
-                if reply.is_in_pipe:
+                if not reply.is_read:
                     self._check()
                 return reply.piece()
             with self._turn(goes_on=True):
@@ -161,7 +162,7 @@ class Session:
             self.is_closed = True
             if self._owner != os.getpid():
                 return
-            if self._reply and self._reply.is_in_pipe:
+            if self._reply and not self._reply.is_read:
                 self._program.kill()
             else:
                 self._program.end()
@@ -202,7 +203,7 @@ class Session:
     def _clear(self) -> None:
         """Reads what is left of a listing, and closes the cursors that are forgotten."""
         if self._reply:
-            if self._reply.is_in_pipe:
+            if not self._reply.is_read:
                 self._reply.set_aside()
             self._reply = None
         while self._forgotten:

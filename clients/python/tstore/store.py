@@ -57,7 +57,10 @@ class Store:
         self.folder = os.path.abspath(folder)
         self.read_only = read_only
         self._cursors = 0
-        self._session = Session(Program(start(self.folder, launcher(program), read_only, wait)))
+        running = Program(start(self.folder, launcher(program), read_only, wait))
+        #: The process of the program.
+        self.pid = running.pid
+        self._session = Session(running)
         # The first reply tells that the folder is open.
         self.labels()
 
@@ -163,7 +166,7 @@ class Store:
             for triple in remove:
                 body.write(f"- {spelled_triple(triple)}\n".encode())
             for line in body_lines(add):
-                body.write(line.encode())
+                body.write(f"{line}\n".encode())
             body.seek(0)
             return self._session.make(command, body, _LAYER)[1]
 

@@ -11,6 +11,7 @@ from .errors import BadTerm, BadTriple, TooLong
 TERM_LIMIT = 1_048_576
 LINE_LIMIT = 4_194_304
 STRING = "http://www.w3.org/2001/XMLSchema#string"
+_STRING_TYPE = f"^^<{STRING}>"
 
 
 @dataclass(frozen=True)
@@ -151,10 +152,17 @@ def spell(term: Term) -> str:
             text += f"^^{_spell_iri(_text(term.datatype))}"
     else:
         raise BadTerm(f"no term: {type(term).__name__}")
-    try:
-        length = len(text.encode())
-    except UnicodeEncodeError:
-        raise BadTerm(f"half a surrogate pair is no character: {text[:80]!r}") from None
+    return _within_limit(text)
+
+
+def _within_limit(text: str) -> str:
+    if text.isascii():
+        length = len(text)
+    else:
+        try:
+            length = len(text.encode())
+        except UnicodeEncodeError:
+            raise BadTerm(f"half a surrogate pair is no character: {text[:80]!r}") from None
     if length > TERM_LIMIT:
         raise BadTerm(f"a term of {length} bytes, and {TERM_LIMIT} is the limit")
     return text
@@ -186,7 +194,18 @@ def _term(found: re.Match[str], at: int) -> Term:
 
 def spelled(term: TermLike) -> str:
     """The canonical spelling of a term, or of one in any spelling."""
-    return spell(read_term(term) if isinstance(term, str) else term)
+    if not isinstance(term, str):
+        return spell(term)
+    if not _IS_TERM.fullmatch(term):
+        raise BadTerm(f"no term: {term[:80]!r}")
+    return _canonical(term)
+
+
+def _canonical(text: str) -> str:
+    """The canonical spelling of a term by one that keeps to the grammar: the same, but for escapes and the type that is left out."""
+    if "\\" in text or text.endswith(_STRING_TYPE):
+        return spell(read_term(text))
+    return _within_limit(text)
 
 
 def spelled_triple(triple: TripleLike) -> str:
@@ -263,44 +282,47 @@ def cut_lines(pieces: Iterable[bytes]) -> Iterator[bytes]:
 def read(text: Union[str, bytes, Iterable[bytes]]) -> Iterator[Change]:
     """The triples of a text of N-Triples, or of a file of it that is open for bytes, each with its sign; a line without one says that
     its triple is to stand. `BadTriple` and `TooLong` with the first line at fault, counted from 1."""
+    return (Change(line[0] == "+", read_triple(line[2:])) for line in _spelled_lines(text))
+
+
+def body_lines(body: BodyLike) -> Iterator[str]:
+    """The lines of a body, spelled anew: a sign, a space, and the line of a triple without its end."""
+    if isinstance(body, (str, bytes)) or hasattr(body, "read"):
+        yield from _spelled_lines(body)  # type: ignore[arg-type]
+        return
+    it: Union[TripleLike, Change]
+    for it in body:
+        stands, triple = it if isinstance(it, Change) else (True, it)
+        yield f"{'+' if stands else '-'} {spelled_triple(triple)}"
+
+
+def _spelled_lines(text: Union[str, bytes, Iterable[bytes]]) -> Iterator[str]:
     if isinstance(text, str):
         try:
             text = text.encode()
         except UnicodeEncodeError:
             raise BadTerm("half a surrogate pair is no character") from None
-    return read_lines(cut_lines([text] if isinstance(text, bytes) else text))
-
-
-def body_lines(body: BodyLike) -> Iterator[str]:
-    """The lines of a body, each with its sign and its end."""
-    changes: Iterable[Union[TripleLike, Change]]
-    # (a file is an iterable too, of its lines)
-    changes = read(body) if isinstance(body, (str, bytes)) or hasattr(body, "read") else body  # type: ignore[arg-type]
-    for it in changes:
-        stands, triple = it if isinstance(it, Change) else (True, it)
-        yield f"{'+' if stands else '-'} {spelled_triple(triple)}\n"
-
-
-def read_lines(lines: Iterable[bytes]) -> Iterator[Change]:
-    """Likewise, of lines without their ends."""
-    for number, line in enumerate(lines, 1):
+    for number, line in enumerate(cut_lines([text] if isinstance(text, bytes) else text), 1):
         if len(line) > LINE_LIMIT:
             raise TooLong(f"too-long {number}")
         try:
-            text = line.decode()
-            if _SAYS_NOTHING.fullmatch(text):
+            decoded = line.decode()
+            found = _IS_LINE.fullmatch(decoded)
+            if found:
+                terms = [_escapes_say_characters(it) for it in found.group(2, 3, 4)]
+            elif _SAYS_NOTHING.fullmatch(decoded):
                 continue
-            found = _IS_LINE.fullmatch(text)
-            if not found:
+            else:
                 raise BadTriple(f"bad-triple {number}")
-            subject, predicate = read_term(found[2]), read_term(found[3])
-            object = _term(found, 5)
         except (UnicodeDecodeError, BadTerm):
             raise BadTriple(f"bad-triple {number}") from None
-        assert not isinstance(subject, Literal) and isinstance(predicate, IRI)
-        triple = Triple(subject, predicate, object)
         try:
-            spell_triple(triple)
+            yield f"{found[1] or '+'} {' '.join(map(_canonical, terms))} ."
         except BadTerm:
             raise TooLong(f"too-long {number}") from None
-        yield Change(found[1] != "-", triple)
+
+
+def _escapes_say_characters(text: str) -> str:
+    """The text of a term as it stands. `BadTerm` where one of its escapes is no character."""
+    _read_escapes(text)
+    return text
