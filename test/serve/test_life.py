@@ -118,11 +118,7 @@ def test_killed_while_they_race(server: Server) -> None:
             time.sleep(chance.uniform(0.05, 0.6))
             workers = members(server)
             server.kill()
-            until = time.monotonic() + 5
-            while any(os.path.exists(f"/proc/{it}") for it in workers) and time.monotonic() < until:
-                time.sleep(0.02)
-            left = [it for it in workers if os.path.exists(f"/proc/{it}")]
-            assert not left, [Path(f"/proc/{it}/cmdline").read_bytes() for it in left]
+            assert_gone(workers)
             server.start()
         time.sleep(2)
     writers.check(is_whole=False)
@@ -146,6 +142,14 @@ def members(server: Server) -> list[int]:
     return found[1:]
 
 
+def assert_gone(processes: list[int]) -> None:
+    """That processes end within seconds of their server."""
+    until = time.monotonic() + 5
+    while left := [it for it in processes if os.path.exists(f"/proc/{it}")]:
+        assert time.monotonic() < until, [Path(f"/proc/{it}/cmdline").read_bytes() for it in left]
+        time.sleep(0.02)
+
+
 def test_it_ends_within_ten_seconds(server: Server) -> None:
     """Told to, while a query runs that would take for ever and a client doesn't read."""
     slow = socket.create_connection(("127.0.0.1", server.port))
@@ -158,8 +162,7 @@ def test_it_ends_within_ten_seconds(server: Server) -> None:
     server.process.send_signal(signal.SIGTERM)
     assert server.process.wait(15) is not None
     assert time.monotonic() - started < 12
-    time.sleep(0.3)
-    assert not [it for it in processes if os.path.exists(f"/proc/{it}")]
+    assert_gone(processes)
     asking.wait()
     slow.close()
     with tstore.open(server.folder, wait=False) as store:

@@ -9,7 +9,7 @@ from rdflib import Graph
 from rdflib.plugins.parsers.notation3 import BadSyntax
 
 from ..errors import BadTerm, BadTriple, TooLong
-from ..terms import cut_lines, read_lines, spell_triple
+from ..terms import read, spell_triple
 from . import formats
 from .graphs import line_of
 from .problems import Problem
@@ -23,7 +23,7 @@ def lines_in(body: bytes, form: str, base: str) -> Iterator[str]:
 
 def _n_triples(body: bytes) -> Iterator[str]:
     try:
-        for number, change in enumerate(read_lines(cut_lines([body])), 1):
+        for number, change in enumerate(read(body), 1):
             if not change.stands:
                 raise Problem(400, "malformed", f"triple {number} has the sign -, which a graph can't have")
             yield spell_triple(change.triple)

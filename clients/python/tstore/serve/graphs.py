@@ -1,9 +1,11 @@
 """The graph that a worker evaluates over: a layer, read by asking the server, with changes of its own laid over it."""
 
+# mypy: allow-untyped-calls
+
 from __future__ import annotations
 
 from collections import deque
-from typing import Iterator, Optional
+from typing import Any, Iterator, Optional
 
 from rdflib.store import Store
 from rdflib.term import Literal, URIRef
@@ -147,7 +149,7 @@ def asked(pattern: Pattern) -> Head:
     return {"ask": "open", "pattern": [None if it is None else spelled_node(it) for it in pattern]}
 
 
-class Overlay(Store):  # type: ignore[misc]
+class Overlay(Store):
     """A store of rdflib over a layer, with what is added to it and removed from it kept apart: the net change, by the lines of its
     triples, since two tags that differ in their case alone are one to rdflib and two here."""
 
@@ -159,7 +161,7 @@ class Overlay(Store):  # type: ignore[misc]
         self.added: dict[str, Triple] = {}
         self.removed: dict[str, Triple] = {}
 
-    def triples(self, pattern: Pattern, context: object = None) -> Iterator[tuple[Triple, Iterator[None]]]:
+    def triples(self, pattern: Any, context: Any = None) -> Iterator[tuple[Triple, Iterator[None]]]:
         wanted = _stored(pattern)
         try:
             below = self._layer.fitting(wanted)
@@ -174,7 +176,7 @@ class Overlay(Store):  # type: ignore[misc]
         for triple in above:
             yield triple, iter(())
 
-    def add(self, triple: Triple, context: object = None, quoted: bool = False) -> None:
+    def add(self, triple: Any, context: Any = None, quoted: bool = False) -> None:
         subject, predicate, object = (stored(it) for it in triple)
         if isinstance(subject, Literal) or not isinstance(predicate, URIRef):
             return
@@ -185,7 +187,7 @@ class Overlay(Store):  # type: ignore[misc]
         elif line not in self.added and not any(True for _ in self._layer.fitting(triple)):
             self.added[line] = triple
 
-    def remove(self, pattern: Pattern, context: object = None) -> None:
+    def remove(self, pattern: Any, context: Any = None) -> None:
         for triple, _ in list(self.triples(pattern)):
             line = line_of(triple)
             if line in self.added:
@@ -193,8 +195,8 @@ class Overlay(Store):  # type: ignore[misc]
             else:
                 self.removed[line] = triple
 
-    def __len__(self, context: object = None) -> int:
-        return self._layer.count("* * *") + len(self.added) - len(self.removed)
+    def __len__(self, context: Any = None) -> int:
+        return self._layer.count() + len(self.added) - len(self.removed)
 
 
 def line_of(triple: Triple) -> str:

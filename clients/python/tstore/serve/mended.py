@@ -5,6 +5,8 @@
 - EXISTS is evaluated in FILTER alone, and not in BIND, SELECT and what stands in them.
 """
 
+# mypy: allow-untyped-calls
+
 from __future__ import annotations
 
 import re
@@ -35,5 +37,5 @@ def _extend(part: Any, expression: Any, name: Any) -> Any:
 
 def mend() -> None:
     """Mends rdflib in this process."""
-    Expr.eval = _eval
+    Expr.eval = _eval  # type: ignore[assignment]
     algebra.Extend = _extend

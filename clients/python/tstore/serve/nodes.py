@@ -1,5 +1,7 @@
 """Terms of the store as terms of rdflib, and back: a literal keeps its spelling, whatever rdflib would make of it."""
 
+# mypy: allow-untyped-calls
+
 from __future__ import annotations
 
 from functools import lru_cache

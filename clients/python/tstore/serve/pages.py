@@ -17,6 +17,7 @@ from ..errors import BadName, BadTerm
 from ..names import reference
 
 from . import views
+from .formats import HTML
 from .history import ROW, picture
 from .problems import Problem
 from .requests import Pattern, parameters
@@ -206,6 +207,7 @@ class Pages:
         address = f"{target.path}/{kind}"
         return self._page(
             "changes",
+            headers=target.headers(HTML),
             title=f"{layer} {kind}",
             target=target,
             kind=kind,
@@ -223,7 +225,7 @@ class Pages:
         given = parameters(request)
         async with self._snapshots.newest() as snapshot:
             one, other = given.one("from"), given.one("to")
-            shown = {"title": "Compare", "one": one or "", "other": other or "", "choices": _choices(snapshot)}
+            shown: dict[str, Any] = {"title": "Compare", "one": one or "", "other": other or "", "choices": _choices(snapshot)}
             if not one or not other:
                 return self._page("compare", found=None, **shown)
             start, end = _resolved(snapshot, one), _resolved(snapshot, other)
@@ -239,7 +241,7 @@ class Pages:
         at = given.one("at") or ""
         subject = given.pattern()[0]
         async with self._snapshots.newest() as snapshot:
-            shown = {"title": "Subject over time", "at": at, "subject": subject or "", "choices": _choices(snapshot)}
+            shown: dict[str, Any] = {"title": "Subject over time", "at": at, "subject": subject or "", "choices": _choices(snapshot)}
             if not at or not subject:
                 return self._page("subject", versions=None, older=None, view=None, **shown)
             chain = _chain(snapshot, _resolved(snapshot, at))

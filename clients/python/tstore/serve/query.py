@@ -1,5 +1,7 @@
 """A query of SPARQL 1.1, by rdflib, with DESCRIBE, which rdflib lacks."""
 
+# mypy: allow-untyped-calls
+
 from __future__ import annotations
 
 import functools
@@ -131,7 +133,7 @@ def _resources(graph: Graph, tree: Any) -> list[Node]:
         return resources
     clauses = {name: query[name] for name in ("where", "groupby", "having", "orderby", "limitoffset", "valuesClause") if name in query}
     result = _evaluated(graph, _translated([tree[0], CompValue("SelectQuery", **clauses)]))
-    wanted = set(named) if query.var else set(result.vars)
+    wanted = set(named) if query.var else set(result.vars or [])
     for row in result.bindings:
         resources += [node for name, node in row.items() if name in wanted]
     return resources

@@ -22,6 +22,7 @@ from .requests import Parameters, parameters
 from .snapshots import cursor
 from .targets import FOREVER, Services, Target, label_path, target_of
 
+Command = Callable[[Store], Triples]
 _PIECE = 1 << 18
 _BY_NAME = {it.name: it for it in (N_TRIPLES, TURTLE, JSON_LD, JSON, XML, CSV, TSV, HTML)}
 _OTHER_GRAPHS = ("default-graph-uri", "named-graph-uri")
@@ -108,7 +109,8 @@ class Reading:
         given.refuse(*_OTHER_GRAPHS, "graph")
         pattern = given.pattern()
         form = chosen(accepted(request, given), (*GRAPHS, HTML))
-        async with AsyncExitStack() as stack:
+        stack = AsyncExitStack()
+        try:
             target = await stack.enter_async_context(target_of(request, self._snapshots))
             headers = target.headers(form)
             layer = target.layer
@@ -116,38 +118,38 @@ class Reading:
                 return known
             if form is HTML:
                 return await self._pages.triples(request, target, headers)
-            question = {"ask": "open", "pattern": pattern}
-            return await self._listing(request, target, form, headers, cursor(layer, pattern), question, stack)
+            return await self._listing(request, target, form, cursor(layer, pattern), {"ask": "open", "pattern": pattern}, stack)
+        finally:
+            await stack.aclose()
 
     async def changes(self, request: Request) -> Response:
         """What a layer adds to its parent, or removes from it."""
         kind = request.scope["path"].rpartition("/")[2]
         form = chosen(accepted(request, parameters(request)), (*GRAPHS, HTML))
-        async with AsyncExitStack() as stack:
+        stack = AsyncExitStack()
+        try:
             target = await stack.enter_async_context(target_of(request, self._snapshots))
-            headers = target.headers(form)
             layer = target.layer
+            if known := unchanged(request, target.headers(form)):
+                return known
             if form is HTML:
                 return await self._pages.changes(request, target, kind)
-            if known := unchanged(request, headers):
-                return known
-
-            def command(store: Store) -> Triples:
-                return store.added(layer) if kind == "added" else store.removed(layer)
-
-            return await self._listing(request, target, form, headers, command, {"ask": kind}, stack)
+            command: Command = (lambda store: store.added(layer)) if kind == "added" else (lambda store: store.removed(layer))
+            return await self._listing(request, target, form, command, {"ask": kind}, stack)
+        finally:
+            await stack.aclose()
 
     async def _listing(
         self,
         request: Request,
         target: Target,
         form: Format,
-        headers: dict[str, str],
-        command: Callable[[Store], Triples],
+        command: Command,
         question: dict[str, Any],
         stack: AsyncExitStack,
     ) -> Response:
         """A listing: N-Triples as they come, and other formats from a worker."""
+        headers = target.headers(form)
         if request.method == "HEAD":
             return Response(headers={**headers, "Content-Type": form.media})
         reader = target.snapshot.reader

@@ -1,11 +1,13 @@
 """Answers to queries as bytes: tables as JSON, XML, CSV and TSV, graphs as N-Triples, Turtle and JSON-LD."""
 
+# mypy: allow-untyped-calls
+
 from __future__ import annotations
 
 import io
 import re
 from xml.sax.saxutils import escape, quoteattr
-from typing import Iterable, Iterator, Optional
+from typing import Any, Iterable, Iterator, Optional
 
 from rdflib.plugins.sparql.results.csvresults import CSVResultSerializer
 from rdflib.plugins.sparql.results.jsonresults import JSONResultSerializer
@@ -33,15 +35,15 @@ def spelled_result(node: Optional[Node]) -> str:
 
 def _tsv(result: Result) -> Iterator[str]:
     """SPARQL 1.1 Query Results CSV and TSV Formats, 4. A tab within a string is an escape, so that it ends no field."""
-    yield "\t".join(f"?{it}" for it in result.vars) + "\n"
+    yield "\t".join(f"?{it}" for it in result.vars or []) + "\n"
     for row in result.bindings:
-        yield "\t".join(spelled_result(row.get(it)).replace("\t", "\\t") for it in result.vars) + "\n"
+        yield "\t".join(spelled_result(row.get(it)).replace("\t", "\\t") for it in result.vars or []) + "\n"
 
 
 def _xml(result: Result) -> Iterator[str]:
     """SPARQL Query Results XML Format. rdflib's own writer leaves out the text of a literal that Python takes for false."""
     yield '<?xml version="1.0" encoding="UTF-8"?>\n<sparql xmlns="http://www.w3.org/2005/sparql-results#">\n<head>'
-    names = [] if result.type == "ASK" else result.vars
+    names = result.vars or []
     yield "".join(f"<variable name={quoteattr(str(it))}/>" for it in names) + "</head>\n"
     if result.type == "ASK":
         yield f"<boolean>{'true' if result.askAnswer else 'false'}</boolean>\n</sparql>\n"
@@ -53,7 +55,7 @@ def _xml(result: Result) -> Iterator[str]:
     yield "</results>\n</sparql>\n"
 
 
-def _xml_term(node: Node) -> str:
+def _xml_term(node: Any) -> str:
     # A carriage return would be read as a line's end.
     text = escape(str(node), {"\r": "&#13;"})
     if isinstance(node, URIRef):

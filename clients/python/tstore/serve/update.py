@@ -1,6 +1,8 @@
 """An update of SPARQL 1.1 over one graph, by rdflib's parser and patterns: where rdflib changes the graph while it still asks, here an
 operation asks first, then takes away, then adds (SPARQL 1.1 Update, 3.1.3)."""
 
+# mypy: allow-untyped-calls
+
 from __future__ import annotations
 
 import collections

@@ -98,8 +98,8 @@ def warm_up() -> None:
         for line in lines_in(body, form, "u:"):
             results.graph([line], form)
     update(graph, 'INSERT DATA { <u:a> <u:b> "2020-01-01T00:00:00Z"^^<http://www.w3.org/2001/XMLSchema#dateTime>, "a" }')
-    for form in RESULTS:
-        answer(graph, _EACH_KIND, form.media)
+    for table in RESULTS:
+        answer(graph, _EACH_KIND, table.media)
     answer(graph, "DESCRIBE <u:a>", "text/turtle")
 
 
