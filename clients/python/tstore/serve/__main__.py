@@ -27,6 +27,7 @@ def _arguments() -> argparse.Namespace:
     parser.add_argument("--workers", type=int, metavar="N", default=min(8, 2 * (os.cpu_count() or 1)), help="evaluations at once")
     parser.add_argument("--readers", type=int, metavar="N", default=2, help="programs that read a snapshot")
     parser.add_argument("--seconds", type=float, metavar="N", default=10.0, help="what an evaluation may take")
+    parser.add_argument("--change-seconds", type=float, metavar="N", default=60.0, help="what working out a change may take")
     parser.add_argument("--megabytes", type=int, metavar="N", default=512, help="what an evaluation may take of memory")
     parser.add_argument("--listing-seconds", type=float, metavar="N", default=300.0, help="what an answer may take in all")
     parser.add_argument("--body-megabytes", type=int, metavar="N", default=64, help="what the body of a change may have")
@@ -101,6 +102,7 @@ def main() -> None:
             readers=max(words.readers, 1),
             seconds=words.seconds,
             megabytes=words.megabytes,
+            change_seconds=words.change_seconds,
             listing_seconds=words.listing_seconds,
             body_bytes=words.body_megabytes << 20,
         )

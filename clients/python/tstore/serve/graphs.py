@@ -16,9 +16,9 @@ from .nodes import Node, Triple, read_line, spelled_node, stored
 from .turtle import cut
 
 Pattern = tuple[Optional[Node], Optional[Node], Optional[Node]]
-# A question costs a turn, about what reading so many triples does: once the questions have cost what reading the whole layer would, and
-# it isn't too large, an evaluation goes on over all of it in memory.
-_TURN = 500
+#: A question costs a turn, about what reading so many triples does: once the questions have cost what reading the whole layer would, and
+#: it isn't too large, an evaluation goes on over all of it in memory.
+TURN = 500
 _SMALL = 250_000
 
 
@@ -122,7 +122,7 @@ class Layer:
         if self._whole is None:
             question = asked(pattern)
             self._asked += 1
-            if self._asked == 1 or not self._asked * _TURN >= self.count() <= _SMALL:
+            if self._asked == 1 or not self._asked * TURN >= self.count() <= _SMALL:
                 return map(read_line, Listing(self, question).lines())
             self._whole = Indexed(list(map(read_line, self.lines())))
         return self._whole.fitting(pattern)

@@ -194,7 +194,7 @@ class Pages:
             row=await self._row(snapshot, layer),
             children=[it for it, parent in snapshot.layers.items() if parent == layer],
             total=await snapshot.reader.do(lambda store: store.count(layer)),
-            triples=[views.triple(it, target.path, "−") for it in removed] + [views.triple(it, target.path, "+") for it in added],
+            triples=[views.triple(it, f"/layers/{snapshot.layers[layer]}", "−") for it in removed] + [views.triple(it, target.path, "+") for it in added],
         )
 
     async def changes(self, request: Request, target: Target, kind: str) -> Response:
@@ -205,6 +205,8 @@ class Pages:
         skipped = (number - 1) * _TRIPLES
         lines = await _some(target.snapshot.reader, lambda store: store.added(layer) if kind == "added" else store.removed(layer), skipped, _TRIPLES)
         address = f"{target.path}/{kind}"
+        # What it removed stands in its parent.
+        path = target.path if kind == "added" else f"/layers/{target.snapshot.layers[layer]}"
         return self._page(
             "changes",
             headers=target.headers(HTML),
@@ -213,7 +215,7 @@ class Pages:
             kind=kind,
             total=total,
             first=skipped,
-            triples=[views.triple(it, target.path, "+" if kind == "added" else "−") for it in lines],
+            triples=[views.triple(it, path, "+" if kind == "added" else "−") for it in lines],
             earlier=views.with_parameters(address, page=str(number - 1)) if number > 1 else None,
             later=views.with_parameters(address, page=str(number + 1)) if number * _TRIPLES < total else None,
         )

@@ -129,13 +129,14 @@ class Pool:
     async def start(self) -> None:
         await asyncio.gather(*(self._begin() for _ in range(self._settings.workers)))
 
-    async def do(self, head: Head, body: bytes, reader: Reader) -> Done:
-        """Has a worker do a job, within the time that it has."""
+    async def do(self, head: Head, body: bytes, reader: Reader, seconds: Optional[float] = None) -> Done:
+        """Has a worker do a job, within the time that it has: an evaluation's, where none is given."""
+        seconds = seconds or self._settings.seconds
         worker = await self._taken()
         listings = Listings(reader, head["layer"])
         is_whole = False
         try:
-            async with asyncio.timeout(self._settings.seconds):
+            async with asyncio.timeout(seconds):
                 await worker.send(packed(head, body))
                 while True:
                     said, size = await worker.head()
@@ -145,7 +146,7 @@ class Pool:
                 done = Done(said, await worker.body(size), size)
             is_whole = said.get("cause") != "memory"
         except TimeoutError:
-            raise Problem(503, "time", f"the request takes more than the {self._settings.seconds:g} seconds that it may have") from None
+            raise Problem(503, "time", f"the request takes more than the {seconds:g} seconds that it may have") from None
         except (ConnectionError, OSError):
             raise Problem(503, "ended", "the process of the request has ended: it may have wanted too much memory") from None
         finally:

@@ -28,6 +28,8 @@ class Settings:
     #: An evaluation's time, and the memory that it may take beside what a worker has at rest.
     seconds: float = 10.0
     megabytes: int = 512
+    #: The time of working out a change.
+    change_seconds: float = 60.0
     #: The time of a whole answer, from the request's head to its last byte.
     listing_seconds: float = 300.0
     head_seconds: float = 10.0

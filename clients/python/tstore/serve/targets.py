@@ -11,7 +11,7 @@ from starlette.requests import Request
 from ..errors import BadName
 from ..names import label_name, layer_name
 from ..store import Label
-from .formats import Format
+from .formats import HTML, Format
 from .pool import Pool
 from .problems import Problem
 from .settings import Settings
@@ -60,7 +60,9 @@ class Target(NamedTuple):
         """How long an answer about it may be kept. One that may be another one the next time isn't."""
         if changes:
             return {"Vary": "Accept", "Cache-Control": "no-store"}
-        return {"Vary": "Accept", "Cache-Control": "no-cache" if self.label else FOREVER, "ETag": self.tag(form)}
+        # A page is made anew by a newer server.
+        kept = "no-cache" if self.label or form is HTML else FOREVER
+        return {"Vary": "Accept", "Cache-Control": kept, "ETag": self.tag(form)}
 
 
 def label_path(name: str) -> str:

@@ -80,7 +80,7 @@ class Writing:
             if request.method == "DELETE":
                 target.layer
             job["layer"] = before.layer
-            work = asyncio.ensure_future(self._services.pool.do(job, sent, target.snapshot.reader))
+            work = asyncio.ensure_future(self._services.pool.do(job, sent, target.snapshot.reader, self._services.settings.change_seconds))
             done = await unless_gone(request, work)
         with done.body as changes:
             if not done.head["changes"]:
