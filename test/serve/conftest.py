@@ -74,7 +74,7 @@ class Server:
         command = [sys.executable, "-m", "tstore.serve", str(self.folder), "--at", at, *self.words]
         environment = {**os.environ, "PYTHONPATH": str(PACKAGE), "PYTHONFAULTHANDLER": "1"}
         self.process = subprocess.Popen(command, stderr=self.log, env=environment, start_new_session=True)
-        until = time.monotonic() + 60
+        until = time.monotonic() + 180
         while not (found := re.search(r"http://[^/]*:(\d+)/ serves", self.said)):
             assert self.process.poll() is None and time.monotonic() < until, self.said
             time.sleep(0.05)

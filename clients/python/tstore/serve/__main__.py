@@ -80,6 +80,8 @@ async def _serve(settings: Settings, listening: socket.socket) -> None:
         await Server(application, settings.end_seconds).serve(sockets=[listening])
     finally:
         application.close()
+    # A thread may wait for the folder's lock, or for a long reply, and nobody waits for it any more.
+    os._exit(0)
 
 
 def main() -> None:

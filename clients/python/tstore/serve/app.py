@@ -89,7 +89,7 @@ class Application:
 
     def close(self) -> None:
         self.services.pool.close()
-        self.services.snapshots.close()
+        self.services.snapshots.remove()
 
     async def __call__(self, scope: dict[str, Any], receive: Any, send: Any) -> None:
         if scope["type"] != "http":

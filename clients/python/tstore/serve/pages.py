@@ -20,7 +20,7 @@ from . import views
 from .formats import HTML
 from .history import ROW, picture
 from .problems import Problem
-from .requests import Pattern, parameters
+from .requests import Pattern, parameters, unless_gone
 from .snapshots import Reader, Snapshot, cursor
 from .targets import Services, Target, check_layer, label_path
 
@@ -282,7 +282,8 @@ class Pages:
     async def _table(self, request: Request, target: Target, text: str) -> dict[str, Any]:
         """The answer to a query as a table."""
         job = {"kind": "query", "layer": target.layer, "accept": "application/sparql-results+json, application/n-triples;q=0.5"}
-        done = await self._services.pool.do(job, text.encode(errors="replace"), target.snapshot.reader)
+        work = asyncio.ensure_future(self._services.pool.do(job, text.encode(errors="replace"), target.snapshot.reader))
+        done = await unless_gone(request, work)
         with done.body as body:
             return await asyncio.get_running_loop().run_in_executor(None, _tabled, body.read(), done.head["form"], target.path)
 

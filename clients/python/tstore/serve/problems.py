@@ -14,7 +14,3 @@ class Problem(Exception):
         self.cause = cause
         self.says = says
         self.headers = dict(headers or {})
-
-
-class Cut(Exception):
-    """A listing that began and can't go on: its connection is closed without the last chunk."""

@@ -19,7 +19,7 @@ from .pages import Pages
 from .pool import Done
 from .problems import Problem
 from .requests import Parameters, parameters
-from .snapshots import cursor
+from .snapshots import Pieces, cursor
 from .targets import FOREVER, Services, Target, label_path, target_of
 
 Command = Callable[[Store], Triples]
@@ -41,6 +41,26 @@ def unchanged(request: Request, headers: dict[str, str]) -> Optional[Response]:
     if tag and is_known(request.headers.get("if-none-match"), tag):
         return Response(status_code=304, headers=headers)
     return None
+
+
+class _Lines(StreamingResponse):
+    """A listing as it comes. What it is read from is given back at its end, also where nobody took a byte of it."""
+
+    def __init__(self, first: bytes, piece: Pieces, held: AsyncExitStack, headers: dict[str, str]) -> None:
+        async def lines() -> AsyncIterator[bytes]:
+            it = first
+            while it:
+                yield it
+                it = await piece()
+
+        super().__init__(lines(), headers=headers)
+        self._held = held
+
+    async def __call__(self, scope: Any, receive: Any, send: Any) -> None:
+        try:
+            await super().__call__(scope, receive, send)
+        finally:
+            await self._held.aclose()
 
 
 async def sent(body: IO[bytes]) -> AsyncIterator[bytes]:
@@ -159,16 +179,7 @@ class Reading:
         piece = await stack.enter_async_context(reader.listing(command))
         # A fault at the beginning has its status; a later one cuts the answer.
         first = await piece()
-        held = stack.pop_all()
-
-        async def lines() -> AsyncIterator[bytes]:
-            async with held:
-                it = first
-                while it:
-                    yield it
-                    it = await piece()
-
-        return StreamingResponse(lines(), headers={**headers, "Content-Type": form.media})
+        return _Lines(first, piece, stack.pop_all(), {**headers, "Content-Type": form.media})
 
     async def sparql(self, request: Request) -> Response:
         """The query operation of the SPARQL 1.1 Protocol."""
@@ -212,28 +223,7 @@ class Reading:
         """The answer to a query, which is given up where the client goes."""
         job = {"kind": "query", "layer": target.layer, "accept": accept}
         work = asyncio.ensure_future(self._services.pool.do(job, text.encode(), target.snapshot.reader))
-        return await unless_gone(request, work)
-
-
-async def unless_gone(request: Request, work: asyncio.Future[Done]) -> Done:
-    """Waits for a worker's answer; where the client closes its connection the worker is ended."""
-    gone = asyncio.ensure_future(_gone(request))
-    try:
-        await asyncio.wait((work, gone), return_when=asyncio.FIRST_COMPLETED)
-        if not work.done():
-            raise Problem(499, "gone", "the client has gone")
-        return work.result()
-    finally:
-        gone.cancel()
-        if not work.done():
-            work.cancel()
-            await asyncio.gather(work, return_exceptions=True)
-
-
-async def _gone(request: Request) -> None:
-    """Comes back once the client has closed its connection."""
-    while (await request.receive())["type"] != "http.disconnect":
-        pass
+        return await requests.unless_gone(request, work)
 
 
 def _json(told: Any, headers: dict[str, str]) -> Response:

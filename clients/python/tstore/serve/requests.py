@@ -4,7 +4,7 @@ from __future__ import annotations
 
 import asyncio
 import re
-from typing import Optional, Sequence
+from typing import Optional, Sequence, TypeVar
 from urllib.parse import parse_qsl
 
 from starlette.requests import ClientDisconnect, Request
@@ -15,6 +15,7 @@ from .formats import Format
 from .problems import Problem
 from .settings import Settings
 
+T = TypeVar("T")
 _FIELDS = 64
 Pattern = tuple[Optional[str], Optional[str], Optional[str]]
 _BEARER = re.compile(r"[Bb]earer +([A-Za-z0-9._~+/=-]+) *")
@@ -156,3 +157,22 @@ def wanted(text: Optional[str], field: str) -> str:
     return text
 
 
+async def unless_gone(request: Request, work: asyncio.Future[T]) -> T:
+    """Waits for a worker's answer; where the client closes its connection the worker is ended."""
+    gone = asyncio.ensure_future(_gone(request))
+    try:
+        await asyncio.wait((work, gone), return_when=asyncio.FIRST_COMPLETED)
+        if not work.done():
+            raise Problem(499, "gone", "the client has gone")
+        return work.result()
+    finally:
+        gone.cancel()
+        if not work.done():
+            work.cancel()
+            await asyncio.gather(work, return_exceptions=True)
+
+
+async def _gone(request: Request) -> None:
+    """Comes back once the client has closed its connection."""
+    while (await request.receive())["type"] != "http.disconnect":
+        pass

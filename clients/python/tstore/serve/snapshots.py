@@ -272,11 +272,9 @@ class Snapshots:
         at = os.stat(self._folder).st_mtime_ns
         return at if time.time_ns() - at > _CLOCK * 1e9 else -time.monotonic_ns()
 
-    def close(self) -> None:
-        if self._newest:
-            self._newest.close()
+    def remove(self) -> None:
+        """Removes what stands in the folder. The programs end with this process."""
         shutil.rmtree(self._home, ignore_errors=True)
-        os.close(self._life)
 
 
 def _home(folder: str) -> str:

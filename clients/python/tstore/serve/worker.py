@@ -6,12 +6,14 @@ from __future__ import annotations
 
 import ctypes
 import gc
+import logging
 import os
 import re
 import resource
 import signal
 import socket
 import sys
+import warnings
 from typing import Any, Callable, Optional
 
 import rdflib
@@ -39,6 +41,7 @@ _EACH_KIND = """SELECT ?o (UUID() AS ?u) (NOW() AS ?n) (RAND() AS ?r) (MD5('a') 
 
 # What the request in hand tried to reach, as an event of Python's audit.
 _reached: list[str] = []
+_warm: list[bool] = []
 
 
 def _audit(event: str, _: Any) -> None:
@@ -50,6 +53,9 @@ def _audit(event: str, _: Any) -> None:
 def run(end: socket.socket, megabytes: int) -> None:
     """The life of a worker, at its end of a pair of sockets."""
     channel = Channel(end.detach())
+    if not _warm:
+        # (the process that it was forked from couldn't import it, as where the package is found by the current folder alone)
+        warm_up()
     status = os.open("/proc/self/status", os.O_RDONLY)
     limit = _bytes(status, b"VmSize") + (megabytes << 20)
     _limit(limit)
@@ -91,6 +97,9 @@ def _limit(memory: int) -> None:
 def warm_up() -> None:
     """Does each kind of work once, so that whatever Python opens for it is open before nothing can be; in the process that workers are
     forked from."""
+    # A literal that isn't one of its type is nothing to be told of: the store keeps it as it is.
+    logging.getLogger("rdflib").setLevel(logging.ERROR)
+    warnings.simplefilter("ignore")
     rdflib.NORMALIZE_LITERALS = False
     mend()
     graph = Graph()
@@ -101,6 +110,7 @@ def warm_up() -> None:
     for table in RESULTS:
         answer(graph, _EACH_KIND, table.media)
     answer(graph, "DESCRIBE <u:a>", "text/turtle")
+    _warm.append(True)
 
 
 def _bytes(status: int, name: bytes) -> int:

@@ -13,7 +13,6 @@ from .conditions import check_version
 from .formats import GRAPHS
 from .frames import Head
 from .problems import Problem
-from .reading import unless_gone
 from .targets import Services, label_of, label_path, target_of
 from .writer import etag
 
@@ -81,7 +80,7 @@ class Writing:
                 target.layer
             job["layer"] = before.layer
             work = asyncio.ensure_future(self._services.pool.do(job, sent, target.snapshot.reader, self._services.settings.change_seconds))
-            done = await unless_gone(request, work)
+            done = await requests.unless_gone(request, work)
         with done.body as changes:
             if not done.head["changes"]:
                 return _told(before.name, before.version, before.layer, 0, 200)
