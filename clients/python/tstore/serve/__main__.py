@@ -16,6 +16,8 @@ from .app import Application
 from .http import Server
 from .settings import Settings, others_read, read_tokens
 
+_LEAST_MEGABYTES = 64
+
 
 def _arguments() -> argparse.Namespace:
     parser = argparse.ArgumentParser(prog="python3 -m tstore.serve", description="Serves a folder of tstore: SPARQL, graphs and a page.")
@@ -103,7 +105,7 @@ def main() -> None:
             workers=max(words.workers, 1),
             readers=max(words.readers, 1),
             seconds=words.seconds,
-            megabytes=words.megabytes,
+            megabytes=max(words.megabytes, _LEAST_MEGABYTES),
             change_seconds=words.change_seconds,
             listing_seconds=words.listing_seconds,
             body_bytes=words.body_megabytes << 20,

@@ -144,7 +144,7 @@ class Pool:
                         break
                     await worker.send(await listings.answer(said))
                 done = Done(said, await worker.body(size), size)
-            is_whole = said.get("cause") != "memory"
+            is_whole = not said["ends"]
         except TimeoutError:
             raise Problem(503, "time", f"the request takes more than the {seconds:g} seconds that it may have") from None
         except (ConnectionError, OSError):

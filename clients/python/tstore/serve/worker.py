@@ -57,7 +57,8 @@ def run(end: socket.socket, megabytes: int) -> None:
         # (the process that it was forked from couldn't import it, as where the package is found by the current folder alone)
         warm_up()
     status = os.open("/proc/self/status", os.O_RDONLY)
-    limit = _bytes(status, b"VmSize") + (megabytes << 20)
+    rest = _bytes(status, b"VmSize")
+    limit = rest + (megabytes << 20)
     _limit(limit)
     sys.addaudithook(_audit)
     channel.send({"ready": True})
@@ -73,15 +74,16 @@ def run(end: socket.socket, megabytes: int) -> None:
         except Gone:
             return
         # An error for want of memory may have been taken for another one on its way up.
-        fresh = said.get("cause") != "memory" and _bytes(status, b"VmPeak") < limit - _NEAR
-        if not fresh:
+        if said.get("cause") == "memory" or _bytes(status, b"VmPeak") > limit - _NEAR:
             said, told = _memory(), b""
         if _reached:
             said, told = _problem(Problem(400, "refused", "the request reaches for what is outside of its graph")), b""
-        channel.send(said, told)
-        if not fresh:
-            return
         gc.collect()
+        # Another request is to have what this one had: a worker that keeps half of it ends.
+        said["ends"] = said.get("cause") == "memory" or bool(_reached) or _bytes(status, b"VmSize") - rest > megabytes << 19
+        channel.send(said, told)
+        if said["ends"]:
+            return
 
 
 def _limit(memory: int) -> None:
@@ -111,6 +113,9 @@ def warm_up() -> None:
         answer(graph, _EACH_KIND, table.media)
     answer(graph, "DESCRIBE <u:a>", "text/turtle")
     _warm.append(True)
+    # What stands now stays: no collection looks at it again, and forked workers share it.
+    gc.collect()
+    gc.freeze()
 
 
 def _bytes(status: int, name: bytes) -> int:
