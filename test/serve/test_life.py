@@ -180,10 +180,45 @@ def test_a_running_request_is_done_at_the_end(server: Server) -> None:
     server.process.wait(15)
 
 
-def test_a_reader_that_dies_is_replaced(server: Server) -> None:
+def test_a_listing_that_fails_is_cut(tmp_path: Path) -> None:
+    """It has no last chunk where its reader dies in the middle of it, nor where its client takes too long."""
+    folder = tmp_path / "large"
+    folder.mkdir()
+    with tstore.open(folder) as store:
+        layer = store.base("".join(f"<http://example.org/subject/{it}> <http://example.org/predicate> <http://example.org/object/{it}> .\n" for it in range(40_000)))
+    for words, kill in ((("--readers", "1"), True), (("--listing-seconds", "3"), False)):
+        server = Server(folder, *words)
+        with socket.create_connection(("127.0.0.1", server.port)) as client:
+            client.setsockopt(socket.SOL_SOCKET, socket.SO_RCVBUF, 4096)
+            client.settimeout(30)
+            client.sendall(f"GET /layers/{layer}/graph HTTP/1.1\r\nHost: 127.0.0.1:{server.port}\r\n\r\n".encode())
+            told = client.recv(1000)
+            assert told.startswith(b"HTTP/1.1 200")
+            if kill:
+                kill_readers(server)
+            else:
+                time.sleep(5)
+            try:
+                while piece := client.recv(65536):
+                    told += piece
+            except ConnectionResetError:
+                pass
+        assert not told.endswith(b"0\r\n\r\n") and len(told) < 5_000_000
+        server.curl("/labels")
+        assert server.is_well()
+        if kill:
+            assert len(server.curl(f"/layers/{layer}/graph").lines) == 40_000
+        server.end()
+
+
+def kill_readers(server: Server) -> None:
     for pid in members(server):
         if b"tstore\x00run" in Path(f"/proc/{pid}/cmdline").read_bytes():
             os.kill(pid, signal.SIGKILL)
+
+
+def test_a_reader_that_dies_is_replaced(server: Server) -> None:
+    kill_readers(server)
     statuses = [server.curl(GRAPH).status for _ in range(4)]
     assert statuses[-1] == 200 and set(statuses) <= {200, 503}, statuses
     server.end()

@@ -387,4 +387,4 @@ async def _difference(snapshot: Snapshot, start: str, end: str) -> tuple[list[st
     for layer in reversed([it for it in down if it not in common]):
         await take(lambda store, it=layer: store.removed(it), False)
         await take(lambda store, it=layer: store.added(it), True)
-    return [it for it, there in stands.items() if not there], [it for it, there in stands.items() if there]
+    return sorted(it for it, there in stands.items() if not there), sorted(it for it, there in stands.items() if there)
