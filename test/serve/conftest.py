@@ -104,7 +104,15 @@ class Server:
         headers = {name.strip().lower(): value.strip() for name, _, value in (it.partition(":") for it in rest)}
         return Reply(int(first.split()[1]), headers, body)
 
-    def change(self, method: str, path: str, sent: Optional[bytes] = None, version: Optional[str] = None, media: Optional[str] = None, token: str = TOKEN) -> Reply:
+    def change(
+        self,
+        method: str,
+        path: str,
+        sent: Optional[bytes] = None,
+        version: Optional[str] = None,
+        media: Optional[str] = None,
+        token: str = TOKEN,
+    ) -> Reply:
         """A change by curl."""
         words = ["-X", method, "-H", f"Authorization: Bearer {token}"]
         if version is not None:
@@ -146,7 +154,11 @@ def make_cafes(folder: Path) -> None:
     gone = [line for line in CAFES.splitlines() if "/tivoli>" in line]
     with tstore.open(folder) as store:
         store.base(CAFES)
-        store.commit("00000001", '<http://example.org/new> <http://example.org/said> "<script>alert(1)</script>" .\n', gone and [tuple_of(it) for it in gone])
+        store.commit(
+            "00000001",
+            '<http://example.org/new> <http://example.org/said> "<script>alert(1)</script>" .\n',
+            gone and [tuple_of(it) for it in gone],
+        )
         store.new_label("main")
         store.set_label("main", 0, "00000002")
         store.new_label("empty")

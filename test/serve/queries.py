@@ -17,7 +17,10 @@ def _filters(*conditions: str) -> list[str]:
 
 def _values(*expressions: str) -> list[str]:
     """Values of expressions over all that has a name."""
-    return [f"SELECT ?c ?name ({it} AS ?x) WHERE {{ ?c s:name ?name OPTIONAL {{ ?c s:seats ?n }} OPTIONAL {{ ?c s:opened ?d FILTER(?c != e:odd) }} }}" for it in expressions]
+    return [
+        f"SELECT ?c ?name ({it} AS ?x) WHERE {{ ?c s:name ?name OPTIONAL {{ ?c s:seats ?n }} OPTIONAL {{ ?c s:opened ?d FILTER(?c != e:odd) }} }}"
+        for it in expressions
+    ]
 
 
 PATTERNS = [
@@ -68,7 +71,7 @@ GROUPS = [
     "SELECT ?c ?x WHERE { ?c a s:Cafe BIND(IF(STRLEN(STR(?c)) > 24, 1, 0) AS ?x) }",
     "SELECT ?c ?n WHERE { VALUES ?c { e:mokka e:aurora e:none } ?c s:name ?n }",
     "SELECT ?c ?t WHERE { ?c s:town ?t VALUES (?c ?t) { (e:mokka t:kiel) (e:aurora UNDEF) (UNDEF t:flensburg) } }",
-    "SELECT ?c ?n WHERE { ?c s:name ?n } VALUES ?n { \"Mokka\"@de \"Kiel\" }",
+    'SELECT ?c ?n WHERE { ?c s:name ?n } VALUES ?n { "Mokka"@de "Kiel" }',
     "SELECT ?c ?m WHERE { ?c s:town ?t { SELECT ?t (MAX(?n) AS ?m) WHERE { ?x s:town ?t ; s:seats ?n } GROUP BY ?t } }",
     "SELECT ?c WHERE { { SELECT ?c WHERE { ?c a s:Cafe ; s:seats ?n } ORDER BY ?n LIMIT 1 } }",
     "SELECT ?n WHERE { { SELECT DISTINCT ?t WHERE { ?c s:town ?t } } ?t s:name ?n }",

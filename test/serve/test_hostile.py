@@ -152,7 +152,9 @@ def test_contexts_reach_nothing(server: Server, tmp_path: Path) -> None:
 
 def test_time_and_memory_end_a_query_and_others_go_on(server: Server) -> None:
     with ThreadPoolExecutor(4) as threads:
-        product = threads.submit(server.ask, "/labels/main", "SELECT (COUNT(*) AS ?n) { ?a ?b ?c . ?d ?e ?f . ?g ?h ?i . ?j ?k ?l . ?m ?n0 ?o }")
+        product = threads.submit(
+            server.ask, "/labels/main", "SELECT (COUNT(*) AS ?n) { ?a ?b ?c . ?d ?e ?f . ?g ?h ?i . ?j ?k ?l . ?m ?n0 ?o }"
+        )
         started = time.monotonic()
         for _ in range(3):
             assert server.ask("/labels/main", "SELECT * { ?s ?p ?o } LIMIT 1").status == 200
@@ -181,7 +183,12 @@ def test_deep_and_long_requests(server: Server) -> None:
     ):
         reply = server.curl("/labels/main/sparql", *sparql, sent=sent.encode())
         assert reply.status in (400, 503) and reply.cause in ("too-deep", "malformed", "time", "ended"), reply.text[:300]
-    for media, sent in ((TURTLE, "<u:a> <u:b> " + "[ <u:c> " * 10_000), (TURTLE, "<u:a> <u:b> " + deep), (JSON_LD, "[" * 100_000), (JSON_LD, '{"u:a":' * 10_000)):
+    for media, sent in (
+        (TURTLE, "<u:a> <u:b> " + "[ <u:c> " * 10_000),
+        (TURTLE, "<u:a> <u:b> " + deep),
+        (JSON_LD, "[" * 100_000),
+        (JSON_LD, '{"u:a":' * 10_000),
+    ):
         reply = server.change("POST", GRAPH, sent.encode(), '"1"', media)
         assert reply.status in (400, 503) and "File" not in reply.text, reply.text[:300]
     assert server.curl("/labels/main/sparql", *sparql, sent=b"ASK {}" + b" " * (2 << 20)).status == 413
@@ -239,10 +246,12 @@ def test_heads_and_bodies_that_are_cut_or_wrong(server: Server) -> None:
         told = raw(server, sent, cut=True)
         assert b"Traceback" not in told and b".py" not in told, told
         assert not told or told.split()[1] in (b"200", b"400", b"404", b"408", b"413", b"421", b"431"), (sent[:80], told)
-    coded = server.curl(GRAPH, "-X", "PUT", "-H", token, "-H", 'If-Match: "1"', "-H", f"Content-Type: {NT}", "-H", "Content-Encoding: gzip", sent=body)
+    coded = server.curl(
+        GRAPH, "-X", "PUT", "-H", token, "-H", 'If-Match: "1"', "-H", f"Content-Type: {NT}", "-H", "Content-Encoding: gzip", sent=body
+    )
     assert coded.status == 415
     assert server.change("PUT", GRAPH, "é".encode("latin-1"), '"1"', NT).status == 400
-    assert server.change("PUT", GRAPH, "<u:a> <u:b> \"é\" .".encode("utf-16"), '"1"', TURTLE).status == 400
+    assert server.change("PUT", GRAPH, '<u:a> <u:b> "é" .'.encode("utf-16"), '"1"', TURTLE).status == 400
     assert server.change("PUT", GRAPH, body, '"1"', NT + "; charset=utf-16").status == 415
     assert server.curl("/layers").body == layers
 
@@ -258,12 +267,19 @@ def test_names_and_terms_with_line_breaks(server: Server) -> None:
     for term in ("<u:a%0Aend%0Alabel set main 1 none>", "<u:a>%20*%20*%0Alabels", '"x%0Aend"', "_:a%0Ab", "<u:%00>"):
         for name in "spo":
             assert server.curl(f"/labels/main/graph?{name}={term.replace(' ', '%20')}").status == 400, term
-    for query in ('SELECT * { ?s ?p "x\\nend\\nlabel set main 1 none" }', "SELECT * { <u:a\\u000Aend> ?p ?o }", 'SELECT * { ?s ?p ?o FILTER(?o = IRI("u:a\\nb")) }'):
+    for query in (
+        'SELECT * { ?s ?p "x\\nend\\nlabel set main 1 none" }',
+        "SELECT * { <u:a\\u000Aend> ?p ?o }",
+        'SELECT * { ?s ?p ?o FILTER(?o = IRI("u:a\\nb")) }',
+    ):
         assert server.ask("/labels/main", query).status in (200, 400), query
     for text in ('INSERT { <u:a> <u:b> ?x } WHERE { BIND(IRI("u:a\\nend\\nlabel set main 1 none") AS ?x) }',):
         reply = server.change("POST", "/labels/main/update", text.encode(), '"1"', UPDATE)
         layer = json.loads(reply.body)["layer"]
-        assert server.curl(f"/layers/{layer}/added").text == "<u:a> <u:b> <u:a\\u000Aend\\u000Alabel\\u0020set\\u0020main\\u00201\\u0020none> .\n"
+        assert (
+            server.curl(f"/layers/{layer}/added").text
+            == "<u:a> <u:b> <u:a\\u000Aend\\u000Alabel\\u0020set\\u0020main\\u00201\\u0020none> .\n"
+        )
     after = json.loads(server.curl("/labels").body)["labels"]
     assert [it["version"] for it in after if it["label"] == "main"] == [2] and len(after) == len(json.loads(before)["labels"])
 
@@ -303,7 +319,12 @@ def test_no_term_becomes_markup(server: Server) -> None:
         reply = server.curl(path, "-H", "Accept: text/html")
         assert reply.headers["content-type"].startswith("text/html"), path
         page = reply.text
-        assert "<script>" not in page and "<img src=x" not in page and 'href="javascript' not in page.lower() and "onerror=alert(1)>" not in page.replace("&gt;", ""), path
+        assert (
+            "<script>" not in page
+            and "<img src=x" not in page
+            and 'href="javascript' not in page.lower()
+            and "onerror=alert(1)>" not in page.replace("&gt;", "")
+        ), path
         policy = reply.headers["content-security-policy"]
         assert "default-src 'none'" in policy and "unsafe" not in policy and reply.headers["x-content-type-options"] == "nosniff"
         assert ' style="' not in page and " onclick" not in page
@@ -311,16 +332,78 @@ def test_no_term_becomes_markup(server: Server) -> None:
 
 def test_a_thousand_random_requests(server: Server) -> None:
     chance = random.Random(7)
-    parts = ["labels", "layers", "main", "graph", "sparql", "update", "00000001", "added", "..", "%00", "%ff", "a b", "é", "?", "#", "static", "style.css", "compare", "subject", "x" * 300, ""]
-    words = ["SELECT", "ASK", "{", "}", "?s", "<u:a>", '"x"', "FILTER", "(", ")", "UNION", "LIMIT", "1", ".", ";", "OPTIONAL", "*", "SERVICE", "BIND", "AS", "\\", "'", "\n", "\x00", "é"]
-    media = [NT, TURTLE, JSON_LD, UPDATE, "application/sparql-query", "application/x-www-form-urlencoded", "text/html", "*/*", "a/b;q=x", ";;;", ""]
+    parts = [
+        "labels",
+        "layers",
+        "main",
+        "graph",
+        "sparql",
+        "update",
+        "00000001",
+        "added",
+        "..",
+        "%00",
+        "%ff",
+        "a b",
+        "é",
+        "?",
+        "#",
+        "static",
+        "style.css",
+        "compare",
+        "subject",
+        "x" * 300,
+        "",
+    ]
+    words = [
+        "SELECT",
+        "ASK",
+        "{",
+        "}",
+        "?s",
+        "<u:a>",
+        '"x"',
+        "FILTER",
+        "(",
+        ")",
+        "UNION",
+        "LIMIT",
+        "1",
+        ".",
+        ";",
+        "OPTIONAL",
+        "*",
+        "SERVICE",
+        "BIND",
+        "AS",
+        "\\",
+        "'",
+        "\n",
+        "\x00",
+        "é",
+    ]
+    media = [
+        NT,
+        TURTLE,
+        JSON_LD,
+        UPDATE,
+        "application/sparql-query",
+        "application/x-www-form-urlencoded",
+        "text/html",
+        "*/*",
+        "a/b;q=x",
+        ";;;",
+        "",
+    ]
 
     def one(_: int) -> tuple[int, bytes, str]:
         path = "/" + "/".join(chance.choice(parts) for _ in range(chance.randint(0, 5)))
         if chance.random() < 0.6:
             path = chance.choice(["/labels/main/sparql", "/layers/00000001/sparql", GRAPH, "/labels/main/update", "/subject", "/compare"])
         name = chance.choice(["query", "s", "p", "o", "format", "from", "at", "page", "update", "before"])
-        path += "?" + name + "=" + "".join(f"%{it:02X}" for it in " ".join(chance.choice(words) for _ in range(chance.randint(0, 12))).encode())
+        path += (
+            "?" + name + "=" + "".join(f"%{it:02X}" for it in " ".join(chance.choice(words) for _ in range(chance.randint(0, 12))).encode())
+        )
         sent = " ".join(chance.choice(words) for _ in range(chance.randint(0, 20))).encode() + chance.randbytes(chance.choice([0, 0, 5]))
         method = chance.choice(["GET", "GET", "HEAD", "POST", "PUT", "DELETE", "PATCH", "OPTIONS", "TRACE", "get", "X-Y"])
         line = f"{method} {path.encode().decode('latin-1').replace(' ', '+')} HTTP/1.1"

@@ -31,7 +31,9 @@ class Writers:
         self.faults: list[str] = []
         self.ends = threading.Event()
         self._turn = threading.Lock()
-        self._threads = [threading.Thread(target=self._write, args=(it,)) for it in range(WRITERS)] + [threading.Thread(target=self._write_by_shell)]
+        self._threads = [threading.Thread(target=self._write, args=(it,)) for it in range(WRITERS)] + [
+            threading.Thread(target=self._write_by_shell)
+        ]
 
     def __enter__(self) -> Writers:
         for it in self._threads:
@@ -155,7 +157,9 @@ def test_it_ends_within_ten_seconds(server: Server) -> None:
     slow = socket.create_connection(("127.0.0.1", server.port))
     slow.sendall(f"GET {GRAPH} HTTP/1.1\r\nHost: 127.0.0.1:{server.port}\r\n".encode())
     product = "SELECT (COUNT(*) AS ?n) { ?a ?b ?c . ?d ?e ?f . ?g ?h ?i . ?j ?k ?l . ?m ?n0 ?o }"
-    asking = subprocess.Popen(["curl", "-s", "-G", "--data-urlencode", f"query={product}", f"{server.url}/labels/main/sparql"], stdout=subprocess.DEVNULL)
+    asking = subprocess.Popen(
+        ["curl", "-s", "-G", "--data-urlencode", f"query={product}", f"{server.url}/labels/main/sparql"], stdout=subprocess.DEVNULL
+    )
     time.sleep(1)
     processes = members(server)
     started = time.monotonic()
@@ -172,7 +176,9 @@ def test_it_ends_within_ten_seconds(server: Server) -> None:
 def test_a_running_request_is_done_at_the_end(server: Server) -> None:
     """What was begun when the server was told to end is answered."""
     product = "SELECT (COUNT(*) AS ?n) { ?a ?b ?c . ?d ?e ?f }"
-    asking = subprocess.Popen(["curl", "-s", "-G", "--data-urlencode", f"query={product}", f"{server.url}/labels/main/sparql"], stdout=subprocess.PIPE)
+    asking = subprocess.Popen(
+        ["curl", "-s", "-G", "--data-urlencode", f"query={product}", f"{server.url}/labels/main/sparql"], stdout=subprocess.PIPE
+    )
     time.sleep(0.15)
     server.process.send_signal(signal.SIGTERM)
     told = asking.communicate()[0]
@@ -185,7 +191,12 @@ def test_a_listing_that_fails_is_cut(tmp_path: Path) -> None:
     folder = tmp_path / "large"
     folder.mkdir()
     with tstore.open(folder) as store:
-        layer = store.base("".join(f"<http://example.org/subject/{it}> <http://example.org/predicate> <http://example.org/object/{it}> .\n" for it in range(40_000)))
+        layer = store.base(
+            "".join(
+                f"<http://example.org/subject/{it}> <http://example.org/predicate> <http://example.org/object/{it}> .\n"
+                for it in range(40_000)
+            )
+        )
     for words, kill in ((("--readers", "1"), True), (("--listing-seconds", "3"), False)):
         server = Server(folder, *words)
         with socket.create_connection(("127.0.0.1", server.port)) as client:

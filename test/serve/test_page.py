@@ -82,7 +82,9 @@ def server(tmp_path_factory: Any) -> Iterator[Server]:
     with tstore.open(folder) as store:
         store.new_label("draft")
         draft = store.commit("00000001", "<http://example.org/mokka> <https://schema.org/seats> <u:many> .\n")
-        store.set_label("draft", 0, store.commit(draft, "\n".join(f"<http://example.org/x{it}> <u:number> <u:{it}> ." for it in range(180)) + "\n"))
+        store.set_label(
+            "draft", 0, store.commit(draft, "\n".join(f"<http://example.org/x{it}> <u:number> <u:{it}> ." for it in range(180)) + "\n")
+        )
         seats = "<http://example.org/mokka> <https://schema.org/seats> "
         number = "^^<http://www.w3.org/2001/XMLSchema#integer>"
         last = store.commit("00000002", "<u:other> <u:b> <u:c> .\n")

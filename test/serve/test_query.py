@@ -52,7 +52,11 @@ def rows(result: Any) -> list[Any]:
 
 def form_of(query: str, number: int) -> tuple[str, str]:
     """A format of the query's answer, by turns."""
-    forms = GRAPHS if query.startswith("CONSTRUCT") else {it: media for it, media in TABLES.items() if it != "tsv" or query.startswith("SELECT")}
+    forms = (
+        GRAPHS
+        if query.startswith("CONSTRUCT")
+        else {it: media for it, media in TABLES.items() if it != "tsv" or query.startswith("SELECT")}
+    )
     return list(forms.items())[number % len(forms)]
 
 
@@ -101,7 +105,9 @@ def test_what_rdflib_lacks(cafes: Server) -> None:
     """An expression that has no value, and EXISTS outside of a filter."""
     reply = cafes.ask("/labels/main", PREFIXES + "SELECT (YEAR(?d) AS ?y) (SUBSTR(?d, 'x') AS ?z) { e:odd s:opened ?d }", TABLES["tsv"])
     assert reply.text == "?y\t?z\n\t\n"
-    reply = cafes.ask("/labels/main", PREFIXES + "SELECT ?c { ?c a s:Cafe BIND(EXISTS { ?c s:address ?a } AS ?x) FILTER(?x) } ORDER BY ?c", TABLES["tsv"])
+    reply = cafes.ask(
+        "/labels/main", PREFIXES + "SELECT ?c { ?c a s:Cafe BIND(EXISTS { ?c s:address ?a } AS ?x) FILTER(?x) } ORDER BY ?c", TABLES["tsv"]
+    )
     assert reply.text == "?c\n<http://example.org/bellevue>\n<http://example.org/mokka>\n"
 
 
@@ -112,7 +118,12 @@ def test_csv(cafes: Server) -> None:
 
 
 def test_describe(cafes: Server) -> None:
-    for query in ("DESCRIBE e:mokka", "DESCRIBE ?x { ?x s:name 'Mokka'@de }", "DESCRIBE * { ?x s:name 'Mokka'@de }", "DESCRIBE ?x e:none { ?x s:near ?x }"):
+    for query in (
+        "DESCRIBE e:mokka",
+        "DESCRIBE ?x { ?x s:name 'Mokka'@de }",
+        "DESCRIBE * { ?x s:name 'Mokka'@de }",
+        "DESCRIBE ?x e:none { ?x s:near ?x }",
+    ):
         found = set(cafes.ask("/labels/main", PREFIXES + query, GRAPHS["nt"]).lines)
         listed = set(cafes.curl("/labels/main/graph?s=http://example.org/mokka").lines) | set(cafes.curl("/labels/main/graph?s=_:a2").lines)
         assert found == listed
@@ -125,6 +136,11 @@ def test_what_changes_is_not_kept(cafes: Server) -> None:
             assert reply.status == 200 and reply.headers["cache-control"] == "no-store" and "etag" not in reply.headers
     assert cafes.ask("/layers/00000001", "SELECT (1 AS ?x) { }").headers["cache-control"] == "public, max-age=31536000, immutable"
     assert cafes.ask("/labels/main", "SELECT (1 AS ?x) { }").headers["etag"] == '"1-json"'
+    address = PREFIXES + "CONSTRUCT { ?x s:address ?y } { ?x s:address ?y }"
+    assert cafes.ask("/labels/main", address).headers["etag"] == '"1-nt"'
+    assert cafes.ask("/labels/main", PREFIXES + "DESCRIBE e:mokka").headers["etag"] == '"1-nt"'
+    for query in ("CONSTRUCT { ?x s:address [] } { ?x s:address ?y }", "CONSTRUCT WHERE { ?x s:address [ s:street ?y ] }"):
+        assert "etag" not in cafes.ask("/labels/main", PREFIXES + query).headers
 
 
 def test_describes_are_read_by_rapper(cafes: Server) -> None:
@@ -133,7 +149,9 @@ def test_describes_are_read_by_rapper(cafes: Server) -> None:
     for form, name in (("ntriples", "nt"), ("turtle", "ttl")):
         # (rapper takes absolute IRIs alone, as all of these are)
         text = cafes.curl(f"/labels/main/graph?format={name}").body
-        read_back = subprocess.run(["rapper", "-q", "-i", form, "-o", "ntriples", "-", "http://base/"], input=text, stdout=subprocess.PIPE, check=True).stdout
+        read_back = subprocess.run(
+            ["rapper", "-q", "-i", form, "-o", "ntriples", "-", "http://base/"], input=text, stdout=subprocess.PIPE, check=True
+        ).stdout
         assert len(read_back.splitlines()) == count
 
 

@@ -19,7 +19,9 @@ def test_listings(cafes: Server) -> None:
     assert reply.headers["content-type"] == "application/n-triples" and reply.headers["cache-control"] == FOREVER
     assert cafes.curl(f"{ODD}/graph").lines == listed
     assert set(listed) - set(cafes.curl("/labels/main/graph").lines) == set(cafes.curl("/layers/00000002/removed").lines)
-    assert cafes.curl("/layers/00000002/added").lines == ['<http://example.org/new> <http://example.org/said> "<script>alert(1)</script>" .']
+    assert cafes.curl("/layers/00000002/added").lines == [
+        '<http://example.org/new> <http://example.org/said> "<script>alert(1)</script>" .'
+    ]
     assert cafes.curl("/layers/00000001/removed").text == ""
 
 
@@ -40,7 +42,11 @@ def test_patterns(cafes: Server) -> None:
 
 def test_labels_and_layers(cafes: Server) -> None:
     labels = json.loads(cafes.curl("/labels").body)["labels"]
-    assert [(it["label"], it["version"], it["layer"]) for it in labels] == [("100%#?&+'x", 1, "00000001"), ("empty", 0, None), ("main", 1, "00000002")]
+    assert [(it["label"], it["version"], it["layer"]) for it in labels] == [
+        ("100%#?&+'x", 1, "00000001"),
+        ("empty", 0, None),
+        ("main", 1, "00000002"),
+    ]
     for it in labels:
         assert cafes.curl(it["graph"]).status == (200 if it["layer"] else 404)
     layers = json.loads(cafes.curl("/layers").body)["layers"]

@@ -42,8 +42,16 @@ def test_nothing_moves_nothing(changed: Server) -> None:
 def test_each_format_is_read(changed: Server) -> None:
     for number, (media, sent, line) in enumerate(
         (
-            (NT, b'<u:a> <u:b> "01"^^<http://www.w3.org/2001/XMLSchema#integer> .', '<u:a> <u:b> "01"^^<http://www.w3.org/2001/XMLSchema#integer> .'),
-            (TURTLE, b'@prefix u: <u:> . u:a u:c "1.0E0"^^<http://www.w3.org/2001/XMLSchema#double> .', '<u:a> <u:c> "1.0E0"^^<http://www.w3.org/2001/XMLSchema#double> .'),
+            (
+                NT,
+                b'<u:a> <u:b> "01"^^<http://www.w3.org/2001/XMLSchema#integer> .',
+                '<u:a> <u:b> "01"^^<http://www.w3.org/2001/XMLSchema#integer> .',
+            ),
+            (
+                TURTLE,
+                b'@prefix u: <u:> . u:a u:c "1.0E0"^^<http://www.w3.org/2001/XMLSchema#double> .',
+                '<u:a> <u:c> "1.0E0"^^<http://www.w3.org/2001/XMLSchema#double> .',
+            ),
             (JSON_LD, b'{"@context": {"d": "u:d"}, "@id": "u:a", "d": {"@value": "x", "@language": "en"}}', '<u:a> <u:d> "x"@en .'),
             (TURTLE, b"<> <#p> <a> .", f"<{changed.url}{GRAPH}> <{changed.url}{GRAPH}#p> <{changed.url}/labels/main/a> ."),
         ),
@@ -85,25 +93,38 @@ def test_update(changed: Server) -> None:
         assert reply.status == 200, reply.text
         version = json.loads(reply.body)["version"]
         layer = json.loads(reply.body)["layer"]
-        return sorted([f"+{it}" for it in changed.curl(f"/layers/{layer}/added").lines] + [f"-{it}" for it in changed.curl(f"/layers/{layer}/removed").lines])
+        return sorted(
+            [f"+{it}" for it in changed.curl(f"/layers/{layer}/added").lines]
+            + [f"-{it}" for it in changed.curl(f"/layers/{layer}/removed").lines]
+        )
 
     assert update("INSERT DATA { <u:a> <u:b> 1, 2 . <u:a> <u:b> 1 }") == [
         f'+<u:a> <u:b> "{it}"^^<http://www.w3.org/2001/XMLSchema#integer> .' for it in (1, 2)
     ]
     # Each operation sees what the one before it left, and asks before it changes.
-    told = update("DELETE { ?s <u:b> ?o } INSERT { ?s <u:c> ?o . ?o <u:nothing> ?s } WHERE { ?s <u:b> ?o }; INSERT { <u:n> <u:is> ?n } WHERE { SELECT (COUNT(*) AS ?n) { ?s <u:c> ?o } }")
+    told = update(
+        "DELETE { ?s <u:b> ?o } INSERT { ?s <u:c> ?o . ?o <u:nothing> ?s } WHERE { ?s <u:b> ?o }; INSERT { <u:n> <u:is> ?n } WHERE { SELECT (COUNT(*) AS ?n) { ?s <u:c> ?o } }"
+    )
     assert len(told) == 5 and sum(it.startswith("-") for it in told) == 2
     assert '+<u:n> <u:is> "2"^^<http://www.w3.org/2001/XMLSchema#integer> .' in told
     assert len(update("DELETE WHERE { ?s <u:c> ?o }")) == 2
     # What is deleted and inserted at once stands.
     assert update("INSERT DATA { <u:a> <u:x> <u:y> }") == ["+<u:a> <u:x> <u:y> ."]
-    assert update("DELETE { ?s ?p ?o } INSERT { ?s ?p ?o . <u:a> <u:x> <u:z> } WHERE { ?s ?p ?o . FILTER(?p = <u:x>) }") == ["+<u:a> <u:x> <u:z> ."]
+    assert update("DELETE { ?s ?p ?o } INSERT { ?s ?p ?o . <u:a> <u:x> <u:z> } WHERE { ?s ?p ?o . FILTER(?p = <u:x>) }") == [
+        "+<u:a> <u:x> <u:z> ."
+    ]
     # A blank node of a request is a new one.
     told = update("INSERT DATA { _:a1 <u:x> _:a1 }")
     assert len(told) == 1 and "_:a1" not in told[0]
     assert all(it.startswith("-") for it in update("CLEAR DEFAULT"))
     assert changed.curl(GRAPH).text == ""
-    form = changed.change("POST", "/labels/main/update", b"update=INSERT+DATA+%7B+%3Cu%3Aa%3E+%3Cu%3Ab%3E+%3Cu%3Ac%3E+%7D", f'"{version}"', "application/x-www-form-urlencoded")
+    form = changed.change(
+        "POST",
+        "/labels/main/update",
+        b"update=INSERT+DATA+%7B+%3Cu%3Aa%3E+%3Cu%3Ab%3E+%3Cu%3Ac%3E+%7D",
+        f'"{version}"',
+        "application/x-www-form-urlencoded",
+    )
     assert form.status == 200 and changed.curl(GRAPH).text == "<u:a> <u:b> <u:c> .\n"
 
 

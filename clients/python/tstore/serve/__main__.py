@@ -23,7 +23,13 @@ def _arguments() -> argparse.Namespace:
     parser = argparse.ArgumentParser(prog="python3 -m tstore.serve", description="Serves a folder of tstore: SPARQL, graphs and a page.")
     parser.add_argument("folder", metavar="FOLDER")
     parser.add_argument("--at", metavar="HOST:PORT", default="127.0.0.1:8080", help="where to listen; the loopback address by default")
-    parser.add_argument("--host", metavar="NAME", action="append", default=[], help="a name, with its port where that isn't 80 or 443, under which it is asked, as by a proxy")
+    parser.add_argument(
+        "--host",
+        metavar="NAME",
+        action="append",
+        default=[],
+        help="a name, with its port where that isn't 80 or 443, under which it is asked, as by a proxy",
+    )
     parser.add_argument("--write", metavar="TOKENFILE", help="lets those write who have a token of this file, one to a line")
     parser.add_argument("--program", metavar="LAUNCHER", help="the launcher of tstore; else $TSTORE, else tstore on the path")
     parser.add_argument("--workers", type=int, metavar="N", default=min(8, 2 * (os.cpu_count() or 1)), help="evaluations at once")

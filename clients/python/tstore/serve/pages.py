@@ -18,6 +18,7 @@ from ..names import reference
 
 from . import views
 from .formats import HTML
+from .frames import Head
 from .history import ROW, picture
 from .problems import Problem
 from .requests import Pattern, parameters, unless_gone
@@ -34,7 +35,10 @@ _MOST = 100_000
 _STATIC = {"style.css": "text/css; charset=utf-8", "page.js": "text/javascript; charset=utf-8", "icon.svg": "image/svg+xml"}
 _EXAMPLES = (
     ("Ten triples", "SELECT ?subject ?predicate ?object WHERE {\n  ?subject ?predicate ?object\n}\nLIMIT 10"),
-    ("Predicates by use", "SELECT ?predicate (COUNT(*) AS ?triples) WHERE {\n  ?subject ?predicate ?object\n}\nGROUP BY ?predicate\nORDER BY DESC(?triples)"),
+    (
+        "Predicates by use",
+        "SELECT ?predicate (COUNT(*) AS ?triples) WHERE {\n  ?subject ?predicate ?object\n}\nGROUP BY ?predicate\nORDER BY DESC(?triples)",
+    ),
     ("Classes", "SELECT ?class (COUNT(?thing) AS ?things) WHERE {\n  ?thing a ?class\n}\nGROUP BY ?class\nORDER BY DESC(?things)"),
 )
 
@@ -71,9 +75,13 @@ class Pages:
         self._snapshots = services.snapshots
         self._changes: dict[str, Changes] = {}
         folder = os.path.join(_HERE, "templates")
-        self._templates = Environment(loader=FileSystemLoader(folder), autoescape=True, undefined=StrictUndefined, trim_blocks=True, lstrip_blocks=True)
+        self._templates = Environment(
+            loader=FileSystemLoader(folder), autoescape=True, undefined=StrictUndefined, trim_blocks=True, lstrip_blocks=True
+        )
         self._templates.filters["number"] = lambda it: f"{it:,}"
-        self._templates.globals.update(label_path=label_path, with_parameters=views.with_parameters, folder=os.path.basename(services.settings.folder))
+        self._templates.globals.update(
+            label_path=label_path, with_parameters=views.with_parameters, folder=os.path.basename(services.settings.folder)
+        )
 
     def _page(self, template: str, status: int = 200, headers: Optional[dict[str, str]] = None, **shown: Any) -> Response:
         text = self._templates.get_template(f"{template}.html").render(**shown)
@@ -118,7 +126,9 @@ class Pages:
     async def _row(self, snapshot: Snapshot, layer: str) -> Row:
         labels = [it.name for it in snapshot.labels.values() if it.layer == layer]
         made = time.gmtime(os.stat(os.path.join(snapshot.folder, f"{layer}.layer")).st_mtime)
-        return Row(layer, snapshot.layers[layer], labels, await self._changes_of(snapshot, layer), time.strftime("%Y-%m-%d %H:%M UTC", made))
+        return Row(
+            layer, snapshot.layers[layer], labels, await self._changes_of(snapshot, layer), time.strftime("%Y-%m-%d %H:%M UTC", made)
+        )
 
     async def _changes_of(self, snapshot: Snapshot, layer: str) -> Changes:
         """How much a layer changes: a layer never does, so it is counted once."""
@@ -194,7 +204,8 @@ class Pages:
             row=await self._row(snapshot, layer),
             children=[it for it, parent in snapshot.layers.items() if parent == layer],
             total=await snapshot.reader.do(lambda store: store.count(layer)),
-            triples=[views.triple(it, f"/layers/{snapshot.layers[layer]}", "−") for it in removed] + [views.triple(it, target.path, "+") for it in added],
+            triples=[views.triple(it, f"/layers/{snapshot.layers[layer]}", "−") for it in removed]
+            + [views.triple(it, target.path, "+") for it in added],
         )
 
     async def changes(self, request: Request, target: Target, kind: str) -> Response:
@@ -203,7 +214,9 @@ class Pages:
         counts = await self._changes_of(target.snapshot, layer)
         total = counts.added if kind == "added" else counts.removed
         skipped = (number - 1) * _TRIPLES
-        lines = await _some(target.snapshot.reader, lambda store: store.added(layer) if kind == "added" else store.removed(layer), skipped, _TRIPLES)
+        lines = await _some(
+            target.snapshot.reader, lambda store: store.added(layer) if kind == "added" else store.removed(layer), skipped, _TRIPLES
+        )
         address = f"{target.path}/{kind}"
         # What it removed stands in its parent.
         path = target.path if kind == "added" else f"/layers/{target.snapshot.layers[layer]}"
@@ -266,7 +279,12 @@ class Pages:
 
     async def sparql(self, request: Request, target: Target, text: Optional[str]) -> Response:
         """The box, and the answer to what stands in it."""
-        shown: dict[str, Any] = {"title": f"SPARQL · {target.title}", "target": target, "text": text or _EXAMPLES[0][1], "examples": _EXAMPLES}
+        shown: dict[str, Any] = {
+            "title": f"SPARQL · {target.title}",
+            "target": target,
+            "text": text or _EXAMPLES[0][1],
+            "examples": _EXAMPLES,
+        }
         shown.update(table=None, problem=None, seconds=0.0, address=f"{target.path}/sparql", asked=text)
         status = 200
         if text and text.strip():
@@ -281,11 +299,12 @@ class Pages:
 
     async def _table(self, request: Request, target: Target, text: str) -> dict[str, Any]:
         """The answer to a query as a table."""
-        job = {"kind": "query", "layer": target.layer, "accept": "application/sparql-results+json, application/n-triples;q=0.5"}
+        job = {"kind": "query", "layer": target.layer, "most": _ROWS}
+        job["accept"] = "application/sparql-results+json, application/n-triples;q=0.5"
         work = asyncio.ensure_future(self._services.pool.do(job, text.encode(errors="replace"), target.snapshot.reader))
         done = await unless_gone(request, work)
         with done.body as body:
-            return await asyncio.get_running_loop().run_in_executor(None, _tabled, body.read(), done.head["form"], target.path)
+            return await asyncio.get_running_loop().run_in_executor(None, _tabled, body.read(), done.head, target.path)
 
 
 def _bars(changes: Changes, most: int) -> Bars:
@@ -294,17 +313,24 @@ def _bars(changes: Changes, most: int) -> Bars:
     return Bars(*(98 * math.log1p(it) / full for it in changes))
 
 
-def _tabled(body: bytes, form: str, path: str) -> dict[str, Any]:
-    if form == "nt":
+def _tabled(body: bytes, head: Head, path: str) -> dict[str, Any]:
+    """What a page shows of an answer, of which only the first rows have come."""
+    if head["form"] == "nt":
         lines = body.decode().split("\n")[:-1]
-        triples = [views.triple(it, path) for it in lines[:_ROWS]]
-        return {"kind": "graph", "names": ["subject", "predicate", "object"], "rows": [it[:3] for it in triples], "total": len(lines), "most": _ROWS}
+        triples = [views.triple(it, path) for it in lines]
+        return {
+            "kind": "graph",
+            "names": ["subject", "predicate", "object"],
+            "rows": [it[:3] for it in triples],
+            "total": head["total"],
+            "most": _ROWS,
+        }
     told = json.loads(body)
     if "boolean" in told:
         return {"kind": "ask", "answer": told["boolean"]}
     names, bindings = told["head"]["vars"], told["results"]["bindings"]
-    rows = [[_bound(binding.get(name), path) for name in names] for binding in bindings[:_ROWS]]
-    return {"kind": "table", "names": names, "rows": rows, "total": len(bindings), "most": _ROWS}
+    rows = [[_bound(binding.get(name), path) for name in names] for binding in bindings]
+    return {"kind": "table", "names": names, "rows": rows, "total": head["total"], "most": _ROWS}
 
 
 def _bound(it: Optional[dict[str, str]], path: str) -> Optional[views.TermView]:

@@ -6,7 +6,7 @@ from __future__ import annotations
 
 import functools
 import re
-from typing import Any, NamedTuple
+from typing import Any, NamedTuple, Optional
 
 from pyparsing import ParseException
 from rdflib import Graph
@@ -28,12 +28,14 @@ _VARIABLE = re.compile(r"[?$](\w+)")
 
 
 class Answer(NamedTuple):
-    """The bytes of an answer, their media type, the word of its format, and whether the next answer may differ by itself."""
+    """The bytes of an answer, their media type, the word of its format, whether the next answer may differ by itself, and how many rows
+    or triples it has in all."""
 
     body: bytes
     media: str
     form: str
     changes: bool
+    total: int
 
 
 def malformed(error: Exception) -> Problem:
@@ -75,32 +77,44 @@ def _evaluated(graph: Graph, query: Any) -> SPARQLResult:
 
 def _in_order(names: Any, text: str) -> list[Variable]:
     """The variables of `SELECT *`, which come as a set, as they come in the query."""
-    places = {found[1]: -found.start() for found in reversed(list(_VARIABLE.finditer(text)))}
-    return sorted(names, key=lambda name: (-places.get(str(name), 1), str(name)))
+    places = {found[1]: found.start() for found in reversed(list(_VARIABLE.finditer(text)))}
+    return sorted(names, key=lambda name: (places.get(str(name), len(text)), str(name)))
 
 
-def answer(graph: Graph, text: str, accept: str) -> Answer:
-    """The answer to a query in the format that is accepted most."""
+def answer(graph: Graph, text: str, accept: str, most: Optional[int] = None) -> Answer:
+    """The answer to a query in the format that is accepted most: all of it, or its first rows or triples."""
     tree = _parsed(text)
     refuse_tree(tree)
+    is_table = tree[1].name in ("SelectQuery", "AskQuery")
+    form = formats.chosen(accept, formats.RESULTS if is_table else formats.GRAPHS)
     changes = changes_by_itself(tree)
-    kind = tree[1].name
-    form = formats.chosen(accept, formats.RESULTS if kind in ("SelectQuery", "AskQuery") else formats.GRAPHS)
     try:
-        if kind == "DescribeQuery":
-            body = results.graph(results.lines_of(_described(graph, tree)), form.name)
-        else:
+        if is_table:
             result = _evaluated(graph, _translated(tree))
-            if kind == "ConstructQuery":
-                changes = changes or any(isinstance(it, BNode) for triple in result.graph for it in triple)
-                body = results.graph(results.lines_of(result.graph), form.name)
-            else:
-                if kind == "SelectQuery" and not tree[1].projection:
+            total = 1
+            if result.type == "SELECT":
+                if not tree[1].projection:
                     result.vars = _in_order(result.vars, text)
-                body = results.table(result, form.name)
+                total, result.bindings = len(result.bindings), result.bindings[:most]
+            body = results.table(result, form.name)
+        else:
+            triples, makes_blanks = _constructed(graph, tree)
+            changes = changes or makes_blanks
+            lines = results.lines_of(triples)
+            total, body = len(lines), results.graph(lines[:most], form.name)
     except SPARQLError as error:
         raise Problem(400, "no-answer", "an expression of the query has no value") from error
-    return Answer(body, form.media, form.name, changes)
+    return Answer(body, form.media, form.name, changes, total)
+
+
+def _constructed(graph: Graph, tree: Any) -> tuple[list[Triple], bool]:
+    """The triples that a query makes or describes, and whether it makes blank nodes, which have other labels the next time."""
+    if tree[1].name == "DescribeQuery":
+        return _described(graph, tree), False
+    query = _translated(tree)
+    template = query.algebra.template or query.algebra.p.p.triples
+    makes_blanks = any(isinstance(it, BNode) for triple in template for it in triple)
+    return list(_evaluated(graph, query).graph), makes_blanks
 
 
 def _described(graph: Graph, tree: Any) -> list[Triple]:

@@ -20,7 +20,7 @@ from .pool import Done
 from .problems import Problem
 from .requests import Parameters, parameters
 from .snapshots import Pieces, cursor
-from .targets import FOREVER, Services, Target, label_path, target_of
+from .targets import Services, Target, label_path, target_of
 
 Command = Callable[[Store], Triples]
 _PIECE = 1 << 18
@@ -160,13 +160,7 @@ class Reading:
             await stack.aclose()
 
     async def _listing(
-        self,
-        request: Request,
-        target: Target,
-        form: Format,
-        command: Command,
-        question: dict[str, Any],
-        stack: AsyncExitStack,
+        self, request: Request, target: Target, form: Format, command: Command, question: dict[str, Any], stack: AsyncExitStack
     ) -> Response:
         """A listing: N-Triples as they come, and other formats from a worker."""
         headers = target.headers(form)

@@ -109,7 +109,9 @@ def body_format(request: Request, forms: Sequence[Format]) -> Format:
     for form in forms:
         if media == form.bare or media in form.others:
             return form
-    raise Problem(415, "media-type", "Content-Type is one of " + ", ".join(it.bare for it in forms), {"Accept": ", ".join(it.bare for it in forms)})
+    raise Problem(
+        415, "media-type", "Content-Type is one of " + ", ".join(it.bare for it in forms), {"Accept": ", ".join(it.bare for it in forms)}
+    )
 
 
 async def body(request: Request, limit: int, settings: Settings) -> bytes:

@@ -62,7 +62,9 @@ def _xml_term(node: Any) -> str:
         return f"<uri>{text}</uri>"
     if isinstance(node, BNode):
         return f"<bnode>{text}</bnode>"
-    kind = f" xml:lang={quoteattr(node.language)}" if node.language else f" datatype={quoteattr(str(node.datatype))}" if node.datatype else ""
+    kind = (
+        f" xml:lang={quoteattr(node.language)}" if node.language else f" datatype={quoteattr(str(node.datatype))}" if node.datatype else ""
+    )
     return f"<literal{kind}>{text}</literal>"
 
 

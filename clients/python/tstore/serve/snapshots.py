@@ -24,7 +24,7 @@ from .settings import Settings
 
 T = TypeVar("T")
 _PART = re.compile(r"[0-9a-f]{8}\.(?:layer|rollup)")
-_LABEL = re.compile(r'(?!\.)[!#-.0-~]{1,200}\.label')
+_LABEL = re.compile(r"(?!\.)[!#-.0-~]{1,200}\.label")
 # One of 64 cursors of a program is kept for whoever comes with none.
 _CURSORS = 60
 _PIECE = 2_048

@@ -157,8 +157,8 @@ def _text(body: bytes) -> str:
 
 
 def _query(layer: Layer, head: Head, body: bytes) -> tuple[Head, bytes]:
-    said = answer(Graph(store=Overlay(layer)), _text(body), head["accept"])
-    return {"status": 200, "media": said.media, "form": said.form, "changes": said.changes}, said.body
+    said = answer(Graph(store=Overlay(layer)), _text(body), head["accept"], head.get("most"))
+    return {"status": 200, "media": said.media, "form": said.form, "changes": said.changes, "total": said.total}, said.body
 
 
 def _graph(layer: Layer, head: Head, body: bytes) -> tuple[Head, bytes]:

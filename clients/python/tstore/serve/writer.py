@@ -12,6 +12,7 @@ from .problems import Problem
 from .settings import Settings
 from .snapshots import Snapshots
 
+
 def etag(version: int, form: str = "") -> str:
     return f'"{version}-{form}"' if form else f'"{version}"'
 

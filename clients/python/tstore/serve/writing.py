@@ -54,7 +54,9 @@ class Writing:
         self._allowed_label(request)
         await self._check(request)
         settings = self._services.settings
-        text = await requests.sent_text(request, settings, "application/sparql-update", "update", "using-graph-uri", "using-named-graph-uri")
+        text = await requests.sent_text(
+            request, settings, "application/sparql-update", "update", "using-graph-uri", "using-named-graph-uri"
+        )
         return await self._changed(request, {"kind": "update"}, text.encode())
 
     def _allowed_label(self, request: Request) -> str:
