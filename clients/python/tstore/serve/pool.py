@@ -197,7 +197,7 @@ class Pool:
         while not self._is_closed:
             try:
                 worker = await self._started()
-            except OSError:
+            except (OSError, EOFError):
                 await asyncio.sleep(0.5)
                 continue
             self._all.add(worker)
