@@ -8,8 +8,10 @@ import threading
 from typing import Any, Callable, Dict, Iterator, Optional, Tuple, Union
 
 import rdflib
+from rdflib.parser import create_input_source
 from rdflib.plugins.stores.memory import SimpleMemory
 from rdflib.store import VALID_STORE
+from rdflib.util import guess_format
 
 from .errors import BadName, BadTerm, Closed, CursorsFull, Held, NoLabel, ReadOnly, Stale
 from .listings import Triples
@@ -26,6 +28,7 @@ Pattern = Tuple[Optional[str], Optional[str], Optional[str]]
 _Store: Any = rdflib.store.Store
 _SimpleMemory: Any = SimpleMemory
 _BNode: Any = rdflib.BNode
+_guess_format: Any = guess_format
 
 rdflib.plugin.register("tstore", rdflib.store.Store, __name__, "LayerStore")
 
@@ -39,14 +42,42 @@ def graph(
     read_only: bool = False,
     wait: bool = True,
     program: Optional[str] = None,
-) -> rdflib.Graph:
+) -> LayerGraph:
     """A graph of the layer that a label names, which reads and writes, or of a layer, which reads. A label that isn't there is made where
     `create` is true. `read_only`, `wait` and `program` are those of `tstore.Store`."""
     if (label is None) == (layer is None):
         raise BadName("a graph is of a label or of a layer")
     store = LayerStore()
     store._open(folder, label, layer, create, read_only, wait, program)
-    return rdflib.Graph(store)
+    return LayerGraph(store)
+
+
+class LayerGraph(rdflib.Graph):
+    """A graph of rdflib that takes JSON-LD too: its parser there asks for a store with contexts, so it gets one in memory, and the triples
+    of its default graph are added here."""
+
+    def parse(
+        self,
+        source: Any = None,
+        publicID: Optional[str] = None,
+        format: Optional[str] = None,
+        location: Optional[str] = None,
+        file: Any = None,
+        data: Any = None,
+        **args: Any,
+    ) -> LayerGraph:
+        text: Any = create_input_source(source, publicID, location, file, data, format)
+        name = getattr(getattr(text, "file", None), "name", None)
+        form = format or text.content_type or (_guess_format(name) if isinstance(name, str) else None)
+        if form not in ("json-ld", "application/ld+json"):
+            super().parse(text, format=format, **args)
+            return self
+        read: Any = rdflib.Graph().parse(text, format=form, **args)
+        for prefix, namespace in read.namespaces():
+            self.namespace_manager.bind(prefix, namespace)
+        for triple in read:
+            self.add(triple)
+        return self
 
 
 class LayerStore(rdflib.store.Store):
@@ -155,21 +186,22 @@ class LayerStore(rdflib.store.Store):
         _Store.remove(self, triple, context)
 
     def _may_change(self) -> None:
-        if self.read is None or self.store.read_only:
+        if self.store.read_only or self.read is None:
             raise ReadOnly("this graph is open for reading alone")
 
     def commit(self) -> None:
         """Publishes the changes as one layer, and moves the label to it from the version that was read. Where nothing changed nothing is
         made. `Stale` where somebody else has moved the label: the changes stay, and `refresh` reads the label anew below them."""
+        store = self.store
         if self.read is None or not self._changes.differ(self._has):
             self._changes = _Changes()
             return
-        now = self.store.label(self.read.name)
+        now = store.label(self.read.name)
         if now.version != self.read.version:
             raise Stale(f"stale {now.name} {now.version}")
         added = self._changes.triples(True)
-        layer = self.store.base(added) if self.layer is None else self.store.commit(self.layer, added, self._changes.triples(False))
-        self.read = self.store.set_label(now.name, now.version, layer)
+        layer = store.base(added) if self.layer is None else store.commit(self.layer, added, self._changes.triples(False))
+        self.read = store.set_label(now.name, now.version, layer)
         self.layer = layer
         self._changes = _Changes()
 
@@ -193,7 +225,7 @@ class LayerStore(rdflib.store.Store):
                 yield (_from_store(one), _from_store(two), _from_store(three)), iter(())
 
     def _fitting(self, pattern: Pattern) -> Iterator[Spelled]:
-        added = self._changes.fitting(pattern)
+        store, added = self.store, self._changes.fitting(pattern)
         yield from added
         one, two, three = pattern
         if self.layer is None:
@@ -203,26 +235,21 @@ class LayerStore(rdflib.store.Store):
             if it not in self._changes.words and self._has(it):
                 yield it
             return
-        for piece in self._listing(self.layer, pattern).pieces():
+        for piece in _listing(store, self.layer, pattern).pieces():
             for line in piece.decode().split("\n")[:-1]:
                 one, two, three = line[: -len(" .")].split(" ", 2)
                 it = (one, two, three)
                 if self._changes.words.get(it) is not False and it not in added:
                     yield it
 
-    def _listing(self, layer: str, pattern: Pattern) -> Triples:
-        """A cursor; where all are open already, a listing, which is read whole once another command comes."""
-        try:
-            return self.store.cursor(layer, *pattern)
-        except CursorsFull:
-            return self.store.list(layer, *pattern)
-
     def _has(self, triple: Spelled) -> bool:
         """Whether the layer has the triple."""
-        return self.layer is not None and self.store.has(self.layer, triple)
+        store = self.store
+        return self.layer is not None and store.has(self.layer, triple)
 
     def __len__(self, context: Any = None) -> int:
-        stood = 0 if self.layer is None else self.store.count(self.layer)
+        store = self.store
+        stood = 0 if self.layer is None else store.count(self.layer)
         return stood + self._changes.growth(self._has)
 
     # Prefixes, which are no part of the store's folder
@@ -241,6 +268,14 @@ class LayerStore(rdflib.store.Store):
 
     def namespaces(self) -> Iterator[Tuple[str, Any]]:
         yield from list(self._namespaces.items())
+
+
+def _listing(store: Store, layer: str, pattern: Pattern) -> Triples:
+    """A cursor; where all are open already, a listing, which is read whole once another command comes."""
+    try:
+        return store.cursor(layer, *pattern)
+    except CursorsFull:
+        return store.list(layer, *pattern)
 
 
 class _Changes:
