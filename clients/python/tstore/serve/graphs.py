@@ -4,8 +4,9 @@
 
 from __future__ import annotations
 
+import time
 from collections import deque
-from typing import Any, Iterator, Optional
+from typing import Any, Iterable, Iterator, Optional
 
 from rdflib.store import Store
 from rdflib.term import Literal, URIRef
@@ -16,9 +17,10 @@ from .nodes import Node, Triple, read_line, spelled_node, stored
 from .turtle import cut
 
 Pattern = tuple[Optional[Node], Optional[Node], Optional[Node]]
-#: A question costs a turn, about what reading so many triples does: once the questions have cost what reading the whole layer would, and
-#: it isn't too large, an evaluation goes on over all of it in memory.
-TURN = 500
+# An evaluation asks for each pattern until its questions have taken as long as reading the whole layer would, about, at so many seconds a
+# triple; then it goes on over all of it in memory, where it isn't too large. So it takes at most about twice the better of the two.
+_SECONDS = 15e-6
+_LITTLE = 0.02
 _SMALL = 250_000
 
 
@@ -99,13 +101,15 @@ class Layer:
     def begin(self) -> None:
         """Another evaluation begins."""
         self._open: Optional[Listing] = None
-        self._asked = 0
+        self._waited = 0.0
 
     def ask(self, question: Head) -> tuple[Head, bytes]:
+        start = time.monotonic()
         self._channel.send(question)
         reply = self._channel.receive()
         if reply is None:
             raise Gone
+        self._waited += time.monotonic() - start
         return reply
 
     def begin_listing(self, listing: Listing) -> None:
@@ -121,8 +125,7 @@ class Layer:
         """The triples that fit. `BadTerm` where a term is none of its place."""
         if self._whole is None:
             question = asked(pattern)
-            self._asked += 1
-            if self._asked == 1 or not self._asked * TURN >= self.count() <= _SMALL:
+            if not self._has_waited() or self.count() > _SMALL:
                 return map(read_line, Listing(self, question).lines())
             self._whole = Indexed(list(map(read_line, self.lines())))
         return self._whole.fitting(pattern)
@@ -137,8 +140,21 @@ class Layer:
         """All triples as lines."""
         return Listing(self, asked((None, None, None))).lines() if self.name else iter(())
 
-    def stands(self, line: str) -> bool:
-        return bool(self.name) and bool(self.ask({"ask": "has", "terms": cut(line)})[0]["has"])
+    def lacking(self, lines: Iterable[str]) -> list[str]:
+        """Those lines whose triples the layer doesn't have."""
+        wanted = dict.fromkeys(lines)
+        for line in list(wanted) if self.name else ():
+            if self._has_waited():
+                for it in self.lines():
+                    wanted.pop(it, None)
+                break
+            if self.ask({"ask": "has", "terms": cut(line)})[0]["has"]:
+                del wanted[line]
+        return list(wanted)
+
+    def _has_waited(self) -> bool:
+        """Whether the questions have taken as long as reading all of it would."""
+        return self._waited > _LITTLE and self._waited > self.count() * _SECONDS
 
 
 def asked(pattern: Pattern) -> Head:

@@ -23,7 +23,7 @@ from . import results
 from .bodies import lines_in
 from .formats import RESULTS
 from .frames import Channel, Head
-from .graphs import TURN, Gone, Layer, Listing, Overlay
+from .graphs import Gone, Layer, Listing, Overlay
 from .mended import mend
 from .problems import Problem
 from .query import answer
@@ -193,12 +193,7 @@ def _put(layer: Layer, head: Head, body: bytes) -> tuple[Head, bytes]:
 
 def _post(layer: Layer, head: Head, body: bytes) -> tuple[Head, bytes]:
     """The triples of a graph that the layer lacks."""
-    wanted = dict.fromkeys(lines_in(body, head["form"], head["base"]))
-    if len(wanted) * TURN < layer.count():
-        return _changed([line for line in wanted if not layer.stands(line)], [])
-    for line in layer.lines():
-        wanted.pop(line, None)
-    return _changed(list(wanted), [])
+    return _changed(layer.lacking(lines_in(body, head["form"], head["base"])), [])
 
 
 _KINDS: dict[str, Callable[[Layer, Head, bytes], tuple[Head, bytes]]] = {
