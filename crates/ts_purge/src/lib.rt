@@ -7,8 +7,8 @@
 //! - [`plan`] gives the files that go, in their order: of each layer that neither a label nor the newest
 //!   layer reaches, from the greatest number down, its rollup and then itself.
 //!
-//! A kept layer's parent is kept, and the newest layer is: so what is left after any number of removals
-//! is a history whose labels stand, and no number comes again.
+//! A kept layer's parent is kept, and the newest layer is; a layer goes before its parent does, and after
+//! its rollup.
 #![tactic(auto)]
 
 mod removals;
