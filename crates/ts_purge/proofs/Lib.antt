@@ -1,4 +1,5 @@
 pub mod Examples
+pub mod FourRows
 pub mod Pass
 pub mod Reached
 pub mod Search
